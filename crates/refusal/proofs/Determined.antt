@@ -1,11 +1,9 @@
 -- A refusal is determined by its number and its particular, and a stop by its code and its particular.
 use mathlib.Core.Path.{_≡_, refl, sym, ap₂, _∙_}
 use mathlib.Core.Bool.{cond}
-use mathlib.Core.List.{[], _∷_, map}
 use Prim.Native.Nat.{ℕ}
 use lib.Dec.{eqb}
-use lib.ListN.{getD}
-use Rattle.refusal.specs.Stops.{numberOf, particularOf, codeOf, particularAt}
+use Rattle.refusal.specs.Stops.{numberOf, particularOf, refusalOf, codeOf, particularAt}
 use Rattle.refusal.specs.declared.Refusal.{Refusal}
 use Rattle.refusal.specs.declared.Refusal.the-variants.{DivisorZero, Beyond, Misaligned, BadOpcode, UnusedBits, PcMisaligned, PcBeyond, ListFull, Malformed}
 use Rattle.refusal.specs.declared.Stop.{Stop}
@@ -13,13 +11,7 @@ use Rattle.refusal.specs.declared.Stop.the-variants.{Fuel, Ebreak, Ecall
 
 -- the stop of a code and a particular
 stopped : ℕ → ℕ → Stop
-stopped k n =
-    cond (eqb k 64) Ebreak
-    (cond (eqb k 65) Ecall
-    (getD
-    (Fuel ∷ map Refused (DivisorZero n ∷ Beyond n ∷ Misaligned n ∷ BadOpcode n ∷ UnusedBits n ∷ PcMisaligned n ∷ PcBeyond n ∷ ListFull n ∷ []))
-    k
-    (Refused Malformed)))
+stopped k n = cond (eqb k 64) Ebreak (cond (eqb k 65) Ecall (cond (eqb k 0) Fuel (Refused (refusalOf k n))))
 
 again : (p : Stop) → stopped (codeOf p) (particularAt p) ≡ p
 unfolding stopped

@@ -1,5 +1,7 @@
 -- Document 01, "Stops and refusals": the number and the particular of each refusal, and the code of each stop.
 use Prim.Native.Nat.{ℕ}
+use mathlib.Core.List.{[], _∷_}
+use lib.ListN.{getD}
 use Rattle.refusal.specs.declared.Refusal.{Refusal}
 use Rattle.refusal.specs.declared.Refusal.the-variants.{DivisorZero, Beyond, Misaligned, BadOpcode, UnusedBits, PcMisaligned, PcBeyond, ListFull, Malformed}
 use Rattle.refusal.specs.declared.Stop.{Stop}
@@ -28,6 +30,14 @@ particularOf (PcMisaligned pc) = pc
 particularOf (PcBeyond pc) = pc
 particularOf (ListFull pc) = pc
 particularOf Malformed = 0
+
+-- the refusal of a number and a particular, by which the definitions of every crate name it
+abbrev pub refusalOf : ℕ → ℕ → Refusal
+refusalOf k n =
+    getD
+    (Malformed ∷ DivisorZero n ∷ Beyond n ∷ Misaligned n ∷ BadOpcode n ∷ UnusedBits n ∷ PcMisaligned n ∷ PcBeyond n ∷ ListFull n ∷ [])
+    k
+    Malformed
 
 -- "code 0 fuel, 1 to 9 refusals, 64 Ebreak, 65 Ecall"
 abbrev pub codeOf : Stop → ℕ
