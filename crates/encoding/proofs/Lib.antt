@@ -1,1 +1,5 @@
 pub mod Signs
+pub mod Extends
+pub mod Packed
+pub mod Corner
+pub mod Corners

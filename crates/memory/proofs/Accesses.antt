@@ -5,7 +5,10 @@ use mathlib.Core.Bool.{Bool, true, false, cond}
 use native.Mathlib.Omega.{arith}
 use lib.Dec.{leb, eqb}
 use borrow.Author.Tests.{leb-true}
-use Rattle.memory.specs.Memory.{accessOf, onAccess}
+use Rattle.refusal.specs.Stops.{refusalOf}
+use Rattle.memory.specs.Memory.{sizeOf, accessOf, onAccess, beyondAt, storeOf}
+use Rattle.memory.specs.declared.Size.{Size}
+use Rattle.memory.specs.declared.Stored.the-variants as S
 use Rattle.memory.specs.declared.Access.{Access}
 use Rattle.memory.specs.declared.Access.the-variants.{Served, Beyond, Misaligned}
 
@@ -46,3 +49,13 @@ module _ {A : Type 0} (served beyond mis : A) (w : Access) where
   pub on-mis : w ≡ Misaligned → mis ≡ onAccess served beyond mis w
   unfolding onAccess
   on-mis e = rw e
+
+-- a store that is served is within the memory
+pub stored-fits : (size : Size) (len address : ℕ) → storeOf size len address ≡ S.Done → address + sizeOf size ≤ len
+unfolding onAccess
+stored-fits size len address e = served-fits (sizeOf size) len address (served (accessOf (sizeOf size) len address) e)
+  where
+    served : (w : Access) → onAccess S.Done (S.Refused (refusalOf 2 (beyondAt len address))) (S.Refused (refusalOf 3 address)) w ≡ S.Done → w ≡ Served
+    served Served e = refl
+    served Beyond e = cc
+    served Misaligned e = cc

@@ -45,17 +45,18 @@ loadOf size m address =
     (L.Refused (refusalOf 3 address))
     (accessOf (sizeOf size) (length m) address)
 
-abbrev pub storeOf : Size → List ℕ → ℕ → Stored
-storeOf size m address =
-    onAccess
-    S.Done
-    (S.Refused (refusalOf 2 (beyondAt (length m) address)))
-    (S.Refused (refusalOf 3 address))
-    (accessOf (sizeOf size) (length m) address)
+-- whether a store in a memory of len bytes is served
+abbrev pub storeOf : Size → ℕ → ℕ → Stored
+storeOf size len address =
+    onAccess S.Done (S.Refused (refusalOf 2 (beyondAt len address))) (S.Refused (refusalOf 3 address)) (accessOf (sizeOf size) len address)
+
+unfoldable pub onStored : {A : Type 0} → A → A → Stored → A
+onStored done refused S.Done = done
+onStored done refused (S.Refused r) = refused
 
 -- the memory after a store: a refused one leaves it
 abbrev pub memoryAfter : Size → List ℕ → ℕ → ℕ → List ℕ
-memoryAfter size m address v = onAccess (putAt (sizeOf size) m address v) m m (accessOf (sizeOf size) (length m) address)
+memoryAfter size m address v = onStored (putAt (sizeOf size) m address v) m (storeOf size (length m) address)
 
 -- the word at the pc
 abbrev pub fetchOf : List ℕ → ℕ → Fetched

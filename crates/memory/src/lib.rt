@@ -49,7 +49,7 @@ fn aligned(address: u64, size: Size) -> bool
     }
 }
 
-fn size_of(size: Size) -> u64
+pub fn size_of(size: Size) -> u64
     ensures { λ r. ⌜ r ≡ sizeOf size ⌝ }
 {
     match size {
@@ -130,19 +130,29 @@ pub fn load(m: &[u8], address: u64, size: Size) -> Loaded
     }
 }
 
+// What a store would answer: nothing is stored.
+pub fn storable(len: usize, address: u64, size: Size) -> Stored
+    ensures { λ r. ⌜ r ≡ storeOf size len address ⌝ }
+{
+    match reach(len, address, size) {
+        Access::Served => Stored::Done,
+        Access::Beyond => Stored::Refused(Refusal::Beyond {
+            address: beyond_at(len, address),
+        }),
+        Access::Misaligned => Stored::Refused(Refusal::Misaligned { address }),
+    }
+}
+
 // Stores the value's low bytes, as many as the size.
 pub fn store(m: &mut [u8], address: u64, size: Size, value: u64) -> Stored
-    ensures { λ r. ⌜ (r ≡ storeOf size (now (m .entry)) address) × (now (m .exit) ≡ memoryAfter size (now (m .entry)) address value) ⌝ }
+    ensures { λ r. ⌜ (r ≡ storeOf size (length (now (m .entry))) address) × (now (m .exit) ≡ memoryAfter size (now (m .entry)) address value) ⌝ }
 {
-    match reach(m.len(), address, size) {
-        Access::Served => {
+    match storable(m.len(), address, size) {
+        Stored::Done => {
             write(m, address as usize, size, value);
             Stored::Done
         }
-        Access::Beyond => Stored::Refused(Refusal::Beyond {
-            address: beyond_at(m.len(), address),
-        }),
-        Access::Misaligned => Stored::Refused(Refusal::Misaligned { address }),
+        Stored::Refused(r) => Stored::Refused(r),
     }
 }
 
