@@ -1,0 +1,7 @@
+pub mod Shifts
+pub mod Order
+pub mod Products
+pub mod Patterns
+pub mod Quotients
+pub mod Widened
+pub mod Corners

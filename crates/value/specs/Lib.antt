@@ -1,0 +1,3 @@
+pub mod Forty
+pub mod Product
+pub mod Division
