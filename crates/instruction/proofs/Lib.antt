@@ -1,0 +1,4 @@
+pub mod Steps
+pub mod Wholes
+pub mod OneWord
+pub mod Corners

@@ -1,0 +1,4 @@
+pub mod Arms
+pub mod Variants
+pub mod Numberings
+pub mod FormKinds
