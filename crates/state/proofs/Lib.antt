@@ -1,0 +1,5 @@
+pub mod Files
+pub mod Below
+pub mod Cases
+pub mod Normal
+pub mod Corners

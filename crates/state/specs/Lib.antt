@@ -1,0 +1,4 @@
+pub mod Held
+pub mod Registers
+pub mod Formed
+pub mod Normalizing
