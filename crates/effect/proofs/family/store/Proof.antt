@@ -1,0 +1,44 @@
+use Rattle.effect.specs.Effects.{storing, onStorable}
+use mathlib.Core.Path.{sym, _∙_}
+use borrow.Author.Needs.{needs}
+use Rattle.effect.proofs.family.store.Statement.{statement}
+use Rattle.effect.proofs.family.store.Tie as tie
+
+store-size-requires : tie.Need-store-size-requires
+store-size-requires c κs = search needs
+
+storable-requires : tie.Need-storable-requires
+storable-requires c κs = search needs
+
+enum-told : tie.Need-enum-told
+enum-told c = search needs
+
+following-requires : tie.Need-following-requires
+following-requires c κs = search needs
+
+stores-at-requires : tie.Need-stores-at-requires
+stores-at-requires c κs = search needs
+
+enum-known-r : tie.Need-enum-known-r
+enum-known-r c = search needs
+
+returns : tie.Need-returns
+unfolding storing onStorable
+returns c = rw (← c .before .before .before .before .before .store-size .ensures, sym (c .before .before .before .before .storable .ensures) ∙ c .before .before .enum-told .given .1, c .stores-at .ensures, c .before .following .ensures)
+
+returns-2 : tie.Need-returns-2
+unfolding storing onStorable
+returns-2 c = rw (← c .before .before .before .before .store-size .ensures, sym (c .before .before .before .storable .ensures) ∙ c .before .r .given .1)
+
+pub store-spec : {M : Type 1} → statement M
+store-spec =
+    tie.close
+    (tie.spec
+    store-size-requires
+    storable-requires
+    enum-told
+    following-requires
+    stores-at-requires
+    enum-known-r
+    returns
+    returns-2)

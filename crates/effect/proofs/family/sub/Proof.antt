@@ -1,0 +1,23 @@
+use borrow.Author.Needs.{needs}
+use Rattle.effect.proofs.family.sub.Statement.{statement}
+use Rattle.effect.proofs.family.sub.Tie as tie
+
+sub-requires : tie.Need-sub-requires
+sub-requires c κs = search needs
+
+after-sub-requires : tie.Need-after-sub-requires
+after-sub-requires c κs = search needs
+
+following-requires : tie.Need-following-requires
+following-requires c κs = search needs
+
+writing-requires : tie.Need-writing-requires
+writing-requires c κs = search needs
+
+returns : tie.Need-returns
+returns c = rw (c .writing .ensures, c .before .following .ensures, c .before .before .after-sub .ensures, c .before .before .before .sub .ensures)
+
+pub sub-spec : {M : Type 1} → statement M
+sub-spec =
+    tie.close
+    (tie.spec sub-requires after-sub-requires following-requires writing-requires returns)

@@ -1,0 +1,19 @@
+use borrow.Author.Needs.{needs}
+use Rattle.effect.proofs.operation.load_bits.Statement.{statement}
+use Rattle.effect.proofs.operation.load_bits.Tie as tie
+
+load-size-requires : tie.Need-load-size-requires
+load-size-requires c κs = search needs
+
+size-of-requires : tie.Need-size-of-requires
+size-of-requires c κs = search needs
+
+after-load-requires : tie.Need-after-load-requires
+after-load-requires c κs = search needs
+
+returns : tie.Need-returns
+returns c = rw (c .after-load .ensures, c .before .size-of .ensures, c .before .before .load-size .ensures)
+
+pub load-bits-spec : {M : Type 1} → statement M
+load-bits-spec =
+    tie.close (tie.spec load-size-requires size-of-requires after-load-requires returns)
