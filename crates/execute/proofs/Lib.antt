@@ -1,0 +1,4 @@
+pub mod Seeing
+pub mod Waiting
+pub mod Finish
+pub mod Admitting

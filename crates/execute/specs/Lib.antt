@@ -1,0 +1,4 @@
+pub mod World
+pub mod Settle
+pub mod Deferred
+pub mod Execute
