@@ -1,0 +1,43 @@
+use Rattle.run.specs.Pending.{listing}
+use borrow.Author.Needs.{needs}
+use Rattle.run.proofs.pending.list.Statement.{statement}
+use Rattle.run.proofs.pending.list.Tie as tie
+
+enum-told : tie.Need-enum-told
+enum-told c = search needs
+
+enum-known-check : tie.Need-enum-known-check
+enum-known-check c = search needs
+
+note-requires : tie.Need-note-requires
+note-requires c κs = search needs
+
+returns : tie.Need-returns
+unfolding listing
+returns c = rw (c .enum-told .given .1)
+
+same-length : tie.Need-same-length
+same-length c = search needs
+
+same-length-2 : tie.Need-same-length-2
+same-length-2 c = search needs
+
+same-length-3 : tie.Need-same-length-3
+same-length-3 c = search needs
+
+returns-2 : tie.Need-returns-2
+unfolding listing
+returns-2 c = rw (c .before .before .before .before .before .before .before .before .before .before .before .check .given .1) (c .before .before .before .before .before .before .note .ensures)
+
+pub list-spec : {M : Type 1} → statement M
+list-spec =
+    tie.close
+    (tie.spec
+    enum-told
+    enum-known-check
+    note-requires
+    returns
+    same-length
+    same-length-2
+    same-length-3
+    returns-2)

@@ -1,0 +1,67 @@
+-- The fuelled run, by recursion on the fuel.
+use Prim.Native.Nat.{ℕ, zero, suc, _+_}
+use mathlib.Core.Bool.{Bool, true, false, cond, _&&_}
+use mathlib.Core.List.{List}
+use Rattle.refusal.specs.Stops.{refusalOf}
+use Rattle.refusal.specs.declared.Stop.{Stop}
+use Rattle.refusal.specs.declared.Stop.the-variants as S
+use Rattle.execute.specs.World.{World, worldOf}
+use Rattle.execute.specs.Execute.{admits}
+use Rattle.execute.specs.declared.Mode.{Mode}
+use Rattle.execute.specs.declared.Went.{Went}
+use Rattle.execute.specs.declared.Went.the-variants as W
+use Rattle.run.specs.Pending.{Lists, lists, listsFit}
+use Rattle.run.specs.Step.{Rules, Left, stepOf}
+use Rattle.run.specs.declared.Ran.{Ran}
+
+pub record Answer : Type 0 where
+  pub stop : Stop
+  pub steps : ℕ
+  pub world : World
+  pub lists : Lists
+
+abbrev pub answer : Stop → ℕ → World → Lists → Answer
+answer p n w l = record { stop = p; steps = n; world = w; lists = l }
+
+-- an answer with n steps before it
+abbrev pub after : ℕ → Answer → Answer
+after n a = answer (a .stop) (n + a .steps) (a .world) (a .lists)
+
+-- "A run stops on fuel, Ebreak, Ecall or a refusal": whether a step goes on, and else its stop
+unfoldable pub goesOn : Went → Bool
+goesOn W.On = true
+goesOn W.Ebreak = false
+goesOn W.Ecall = false
+goesOn (W.Refused r) = false
+
+unfoldable pub stopOf : Went → Stop
+stopOf W.On = S.Fuel
+stopOf W.Ebreak = S.Ebreak
+stopOf W.Ecall = S.Ecall
+stopOf (W.Refused r) = S.Refused r
+
+-- "Ebreak and Ecall count, a refused one doesn't"
+unfoldable pub counted : Went → ℕ
+counted W.On = 1
+counted W.Ebreak = 1
+counted W.Ecall = 1
+counted (W.Refused r) = 0
+
+unfoldable pub following : Left → (World → Lists → Answer) → Answer
+following s rest = cond (goesOn (s .went)) (after 1 (rest (s .world) (s .lists))) (answer (stopOf (s .went)) (counted (s .went)) (s .world) (s .lists))
+
+-- at most n steps
+unfoldable pub loop : ℕ → Mode → Rules → World → Lists → Answer
+loop zero k R w l = answer S.Fuel 0 w l
+loop (suc n) k R w l = following (stepOf k R w l) (loop n k R)
+
+-- "A run tests 9 first; then a halted state answers Ebreak at 0 steps, before fuel is looked at"
+unfoldable pub run : Mode → Rules → ℕ → World → Lists → Answer
+run k R fuel w l =
+    cond (admits k (w .registers) && listsFit l)
+    (cond (w .halted) (answer S.Ebreak 0 w l) (loop fuel k R w l))
+    (answer (S.Refused (refusalOf 9 0)) 0 w l)
+
+-- what the code gives back, with what was lent to it
+abbrev pub ran : Ran → List ℕ → List ℕ → List ℕ → List ℕ → Answer
+ran r m vs bs ps = answer (r .stop) (r .steps) (worldOf (r .state) m) (lists (r .count) vs bs ps)
