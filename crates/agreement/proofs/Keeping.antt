@@ -1,0 +1,114 @@
+-- What normalising and the writes of each form keep, every instruction keeps, and every step and run.
+use Prim.Native.Nat.{ℕ, zero, suc}
+use mathlib.Core.Path.{_≡_, refl}
+use mathlib.Core.Bool.{Bool, _&&_}
+use mathlib.Core.List.{List, [], _∷_}
+use Rattle.memory.specs.Memory.{fetchOf}
+use Rattle.memory.specs.declared.Fetched.{Fetched}
+use Rattle.memory.specs.declared.Fetched.the-variants as F
+use Rattle.state.specs.Held.{Held, Whole}
+use Rattle.state.specs.Registers.{Registers, put, normalise}
+use Rattle.effect.specs.Notes.{Notes}
+use Rattle.effect.specs.Effects.{Seen, effect}
+use Rattle.effect.specs.declared.Effect.{Effect}
+use Rattle.effect.specs.declared.Outcome.{Outcome}
+use Rattle.effect.specs.declared.Outcome.the-variants.{Does, Refuses}
+use Rattle.instruction.specs.Words.{decodeIn}
+use Rattle.instruction.specs.declared.Decoded.{Decoded}
+use Rattle.instruction.specs.declared.Decoded.the-variants as D
+use Rattle.instruction.specs.declared.Instruction.{Instruction}
+use Rattle.execute.specs.World.{World, Stepped, refused, does, done}
+use Rattle.execute.specs.Settle.{sources, normaliseEach, settle}
+use Rattle.execute.specs.Deferred.{sumInto, subtracted, limbsIn}
+use Rattle.execute.specs.Execute.{onward, finish, execute, admits}
+use Rattle.execute.specs.declared.Mode.{Mode}
+use Rattle.execute.specs.declared.Mode.the-variants.{Plain, Deferred}
+use Rattle.run.specs.Pending.{Lists, listsFit}
+use Rattle.run.specs.Step.{Rules, obey, fetched, Left, left, stepOf, step}
+use Rattle.run.specs.Run.{Answer, answer, after, goesOn, following, loop, run}
+use Rattle.agreement.proofs.Cases.{cond-case, limb-cases}
+
+module _ (Q : Registers → Type 0) (N : Notes)
+    (normal : (n : ℕ) (R : Registers) → Q R → Q (normalise n R))
+    (whole : (i : Instruction) (v : Seen) (m : List ℕ) (e : Effect) (R : Registers) → effect N i v m ≡ Does e → Q R → Q (put R (e .rd) (Whole (e .value)) (e .bound)))
+    (sum : (rd : ℕ) (x y : Held) (a b : ℕ) (R T : Registers) → Q R → Q T → Q (sumInto rd x y (N .sum a b) R T))
+    (difference : (rd rs1 rs2 : ℕ) (R : Registers) → Q R → Q (subtracted N rd rs1 rs2 R)) where
+  each-keeps : (ns : List ℕ) (R : Registers) → Q R → Q (normaliseEach ns R)
+  unfolding normaliseEach
+  each-keeps [] R h = h
+  each-keeps (n ∷ ns) R h = each-keeps ns _ (normal n R h)
+
+  settle-keeps : (k : Mode) (i : Instruction) (R : Registers) → Q R → Q (settle k i R)
+  unfolding settle
+  settle-keeps Plain i R h = h
+  settle-keeps Deferred i R h = each-keeps (sources i) R h
+
+  limbs-keep : (k : Mode) (i : Instruction) (R : Registers) → Q R → Q ((limbsIn k N i R) .registers)
+  unfolding limbsIn
+  limbs-keep Plain i R h = h
+  limbs-keep Deferred i R h =
+      limb-cases N R (λ _ l. Q (l .registers))
+      (λ rd rs1 rs2. sum rd _ _ _ _ R _ h (normal rs2 _ (normal rs1 R h)))
+      (λ rd rs1 imm. sum rd _ _ _ _ R _ h (normal rs1 R h))
+      (λ rd rs1 rs2 _. difference rd rs1 rs2 R h)
+      (λ _. h)
+      i
+
+  done-keeps : (full : Bool) (i : Instruction) (v : Seen) (o : Outcome) (w : World) (R : Registers) → effect N i v (w .memory) ≡ o → Q (w .registers) → Q R → Q ((done full o w R) .world .registers)
+  unfolding done
+  done-keeps full i v (Refuses r) w R p z h = z
+  done-keeps full i v (Does e) w R p z h =
+      cond-case (λ (s : Stepped). Q (s .world .registers)) (full && e .checked) (refused _ w) (does e (w .halted) R (w .memory))
+      (λ _. z)
+      (λ _. whole i v (w .memory) e R p h)
+
+  pub execute-keeps : (k : Mode) (full : Bool) (i : Instruction) (w : World) → Q (w .registers) → Q ((execute k full N i w) .world .registers)
+  unfolding execute finish
+  execute-keeps k full i w h =
+      let l = limbsIn k N i (w .registers) in
+      cond-case (λ (s : Stepped). Q (s .world .registers)) (l .waits) (onward w (l .registers)) _
+      (λ _. limbs-keep k i (w .registers) h)
+      (λ _. done-keeps full i _ _ w _ refl h (settle-keeps k i (w .registers) h))
+
+module _ (Q : Registers → Type 0) (k : Mode) (R : Rules)
+    (keeps : (full : Bool) (i : Instruction) (w : World) → Q (w .registers) → Q ((execute k full (R .notes) i w) .world .registers)) where
+  obey-keeps : (full : Bool) (d : Decoded) (w : World) → Q (w .registers) → Q ((obey k full R d w) .world .registers)
+  unfolding obey
+  obey-keeps full (D.Instruction i) w h = keeps full i w h
+  obey-keeps full (D.Refused r) w h = h
+
+  fetched-keeps : (full : Bool) (f : Fetched) (w : World) → Q (w .registers) → Q ((fetched k full R f w) .world .registers)
+  unfolding fetched
+  fetched-keeps full (F.Word x) w h = obey-keeps full (decodeIn (R .number) x) w h
+  fetched-keeps full (F.Refused r) w h = h
+
+  pub inner-step-keeps : (w : World) (l : Lists) → Q (w .registers) → Q ((stepOf k R w l) .world .registers)
+  unfolding stepOf
+  inner-step-keeps w l h = fetched-keeps _ (fetchOf (w .memory) (w .pc)) w h
+
+  pub step-keeps : (w : World) (l : Lists) → Q (w .registers) → Q ((step k R w l) .world .registers)
+  unfolding step
+  step-keeps w l h =
+      cond-case (λ (s : Left). Q (s .world .registers)) (admits k (w .registers) && listsFit l) (stepOf k R w l) (left _ w l)
+      (λ _. inner-step-keeps w l h)
+      (λ _. h)
+
+  abbrev QAfter : Answer → Type 0
+  QAfter a = Q (a .world .registers)
+
+  loop-keeps : (n : ℕ) (w : World) (l : Lists) → Q (w .registers) → QAfter (loop n k R w l)
+  unfolding loop following
+  loop-keeps zero w l h = h
+  loop-keeps (suc n) w l h =
+      let s = stepOf k R w l in
+      let z = inner-step-keeps w l h in
+      cond-case QAfter (goesOn (s .went)) (after 1 (loop n k R (s .world) (s .lists))) (answer _ _ (s .world) _)
+      (λ _. loop-keeps n (s .world) (s .lists) z)
+      (λ _. z)
+
+  pub run-keeps : (fuel : ℕ) (w : World) (l : Lists) → Q (w .registers) → QAfter (run k R fuel w l)
+  unfolding run
+  run-keeps fuel w l h =
+      cond-case QAfter (admits k (w .registers) && listsFit l) _ (answer _ _ w _)
+      (λ _. cond-case QAfter (w .halted) (answer _ _ w _) (loop fuel k R w l) (λ _. h) (λ _. loop-keeps fuel w l h))
+      (λ _. h)

@@ -1,0 +1,11 @@
+pub mod Cases
+pub mod Values
+pub mod Keeping
+pub mod Formed
+pub mod Capped
+pub mod Sound
+pub mod Reading
+pub mod Sized
+pub mod Agree
+pub mod Normalised
+pub mod Runs

@@ -1,0 +1,36 @@
+-- What every instruction keeps, and what normalising one register does.
+use Prim.Native.Nat.{ℕ, _+_, _*_, _%_, _^_, _≤_, _<_}
+use mathlib.Core.Path.{_≡_}
+use mathlib.Core.Logic.{_≢_}
+use Rattle.state.specs.Held.{Whole, lowOf, highOf, valueOf, normal, joined}
+use Rattle.state.specs.Registers.{Registers, holds, noted, normalise}
+use Rattle.effect.specs.Notes.{Notes}
+use Rattle.instruction.specs.declared.Division.{Division}
+use Rattle.instruction.specs.declared.LoadKind.{LoadKind}
+use Rattle.instruction.specs.declared.Operation.{Operation}
+
+-- "Bounds are notes of 0 to 64 bits, capped at 64": of the notes that are written
+pub record Capped (N : Notes) : Type 0 where
+  pub sum : (x y : ℕ) → N .sum x y ≤ 64
+  pub difference : (x y : ℕ) → N .difference x y ≤ 64
+  pub product : (x y : ℕ) → N .product x y ≤ 64
+  pub quotient : (op : Division) (x y : ℕ) → N .quotient op x y ≤ 64
+  pub result : (op : Operation) (x y b : ℕ) → N .result op x y b ≤ 64
+  pub moved : (x y : ℕ) → N .moved x y ≤ 64
+  pub loaded : (op : LoadKind) → N .loaded op ≤ 64
+  pub link : (v : ℕ) → N .link v ≤ 64
+
+-- `wellFormed` in facts: "R0 is whole, zero, bound 0", bounds at most 64, and "Accumulated limbs are below 2^30" (a whole register's always)
+pub record Formed (R : Registers) : Type 0 where
+  pub zero-whole : holds R 0 ≡ Whole 0
+  pub zero-bound : noted R 0 ≡ 0
+  pub bounded : (n : ℕ) → noted R n ≤ 64
+  pub small : (n : ℕ) → (lowOf (holds R n) < 2 ^ 30) × (highOf (holds R n) < 2 ^ 30)
+
+-- the register n, which held the limbs low and high, normalised
+pub record Normalised (R : Registers) (n low high : ℕ) : Type 0 where
+  pub whole : holds (normalise n R) n ≡ Whole (joined (normal 20 low high))
+  pub small : (lowOf (holds (normalise n R) n) < 2 ^ 20) × (highOf (holds (normalise n R) n) < 2 ^ 20)
+  pub exact : valueOf (holds (normalise n R) n) + 2 ^ 40 * normal 20 low high .carry1 ≡ low + 2 ^ 20 * high
+  pub bounds : (normalise n R) .bounds ≡ R .bounds
+  pub others : (m : ℕ) → m % 16 ≢ n % 16 → holds (normalise n R) m ≡ holds R m
