@@ -1,0 +1,7 @@
+pub mod Rows
+pub mod Numbers
+pub mod Stored
+pub mod Tests
+pub mod Contents
+pub mod Round
+pub mod Calls

@@ -1,0 +1,88 @@
+// What the host lends, and its call of the run.
+use execute::Mode;
+use run::Ran;
+use state::State;
+ghost use mathlib.Core.Path.{_≡_};
+ghost use mathlib.Core.Bool.{_&&_};
+ghost use lib.Dec.{eqb, leb};
+ghost use Rattle.state.specs.Formed.{registersOf};
+ghost use Rattle.execute.specs.Execute.{admits};
+ghost use Rattle.host.specs.Layout.{stateIn, wellLaid};
+ghost use Rattle.host.specs.Answer.{ANSWER_BYTES};
+ghost use Rattle.run.specs.Run.{answer};
+ghost use Rattle.execute.specs.World.{worldOf};
+ghost use Rattle.host.specs.Call.{modeOf, none, ranOn, called, served, callOf};
+
+pub mod answer; // answer.rt: the 24 bytes of an answer
+pub mod layout; // layout.rt: the 400 bytes of a state
+
+fn mode_of(n: u64) -> Mode
+    ensures { λ r. ⌜ r ≡ modeOf n ⌝ }
+{
+    if n == 0 {
+        return Mode::Plain;
+    }
+    Mode::Deferred
+}
+
+// Whether the mode's run takes the state.
+fn admits(mode: u64, s: State) -> bool
+    ensures { λ r. ⌜ r ≡ admits (modeOf mode) (registersOf s) ⌝ }
+{
+    let regs = s.regs;
+    let accumulated = s.accumulated;
+    let bounds = s.bounds;
+    execute::admits(mode_of(mode), &regs, &accumulated, &bounds)
+}
+
+fn takes(state: &[u8], answer: usize, mode: u64) -> bool
+    ensures { λ r. ⌜ r ≡ (eqb answer ANSWER_BYTES && leb mode 1 && wellLaid (now (state .entry)) && admits (modeOf mode) (registersOf (stateIn (now (state .entry))))) ⌝ }
+{
+    if answer != answer::ANSWER_BYTES {
+        return false;
+    }
+    if 1 < mode {
+        return false;
+    }
+    if !layout::well_laid(state) {
+        return false;
+    }
+    admits(mode, layout::read_state(state))
+}
+
+// The run of the mode, with no list lent.
+fn run_by(mode: u64, s: State, fuel: u64, m: &mut [u8]) -> Ran
+    ensures { λ r. ⌜ served (answer (r .stop) (r .steps) (worldOf (r .state) (now (m .exit))) none) ≡ served (ranOn mode fuel s (now (m .entry))) ⌝ }
+{
+    let mut values = [0u64; 0];
+    let mut widths = [0u8; 0];
+    let mut pcs = [0u64; 0];
+    if mode == 0 {
+        return run::run_plain(s, fuel, m, &mut values, &mut widths, &mut pcs, 0);
+    }
+    run::run_deferred(s, fuel, m, &mut values, &mut widths, &mut pcs, 0)
+}
+
+// The host's call: mode 0 is plain, 1 deferred. It answers the stop's code, and 9 with nothing run where an argument is malformed.
+#[no_mangle]
+pub extern "C" fn zkir_run(
+    state: &mut [u8],
+    memory: &mut [u8],
+    answer: &mut [u8],
+    fuel: u64,
+    mode: u64,
+) -> u64
+    ensures { λ r. ⌜ called r (now (state .exit)) (now (memory .exit)) (now (answer .exit)) ≡ callOf (now (state .entry)) (now (memory .entry)) (now (answer .entry)) fuel mode ⌝ }
+{
+    if !takes(state, answer.len(), mode) {
+        answer::write_answer(answer, 9, 0, 0);
+        return 9;
+    }
+    let r = run_by(mode, layout::read_state(state), fuel, memory);
+    let stop = r.stop;
+    let after = r.state;
+    let code = refusal::code(stop);
+    layout::write_state(state, after);
+    answer::write_answer(answer, code, r.steps, refusal::particular_at(stop));
+    code
+}
