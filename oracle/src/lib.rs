@@ -1,0 +1,21 @@
+//! The oracle: the published Rust over stand-ins written from document 01, to be compared with our code.
+
+pub mod assemble;
+pub mod case;
+pub mod compare;
+pub mod corners;
+pub mod generate;
+pub mod host;
+pub mod layout;
+pub mod listed;
+pub mod machine;
+pub mod programs;
+pub mod random;
+pub mod refusal;
+pub mod run;
+pub mod shrink;
+pub mod subject;
+pub mod sweep;
+pub mod tally;
+pub mod vectors;
+pub mod words;

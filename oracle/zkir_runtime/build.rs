@@ -1,0 +1,5 @@
+include!("../published.rs");
+
+fn main() {
+    take_published("zkir-runtime", &["execute", "deferred", "normalize"]);
+}
