@@ -10,7 +10,7 @@ use std::process::{exit, Command};
 fn main() {
     println!("cargo:rerun-if-env-changed=ZKIR_ARCHIVE");
     let root = Path::new(&variable("CARGO_MANIFEST_DIR")).join("..");
-    let archive = match env::var_os("ZKIR_ARCHIVE") {
+    let archive = match env::var_os("ZKIR_ARCHIVE").filter(|named| !named.is_empty()) {
         Some(named) => named_archive(root.join(named)),
         None => built_archive(&root),
     };

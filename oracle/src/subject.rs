@@ -16,49 +16,28 @@ impl Subject for Oracle {
     }
 }
 
-/// The archive that the build was given in ZKIR_ARCHIVE.
-#[cfg(archive)]
+/// The archive that the crate for Rust hosts links.
+#[cfg(feature = "archive")]
 pub struct Archive;
 
-#[cfg(archive)]
-mod linked {
-    extern "C" {
-        pub fn zkir_run(
-            state: *mut u8,
-            state_length: usize,
-            memory: *mut u8,
-            memory_length: usize,
-            answer: *mut u8,
-            answer_length: usize,
-            fuel: u64,
-            mode: u64,
-        ) -> u64;
+#[cfg(feature = "archive")]
+impl Subject for Archive {
+    fn run(&self, state: &mut [u8], memory: &mut [u8], answer: &mut [u8], fuel: u64, mode: u64) -> u64 {
+        yokeglimmer::raw::run(state, memory, answer, fuel, mode)
     }
 }
 
-#[cfg(archive)]
-impl Subject for Archive {
-    fn run(&self, state: &mut [u8], memory: &mut [u8], answer: &mut [u8], fuel: u64, mode: u64) -> u64 {
-        // The three slices are lent apart from each other, each with its own length, for the time of the call.
-        unsafe {
-            linked::zkir_run(
-                state.as_mut_ptr(),
-                state.len(),
-                memory.as_mut_ptr(),
-                memory.len(),
-                answer.as_mut_ptr(),
-                answer.len(),
-                fuel,
-                mode,
-            )
-        }
-    }
-}
+// An archive that is named but not linked would be taken for one that agrees.
+#[cfg(not(feature = "archive"))]
+const _: () = match option_env!("ZKIR_ARCHIVE") {
+    Some(named) if !named.is_empty() => panic!("ZKIR_ARCHIVE is set: build with --features archive"),
+    _ => {}
+};
 
 /// The archive where one is linked, else the oracle itself.
 pub fn subject() -> (&'static str, &'static dyn Subject) {
-    #[cfg(archive)]
+    #[cfg(feature = "archive")]
     return ("the archive", &Archive);
-    #[cfg(not(archive))]
-    return ("the oracle itself (no ZKIR_ARCHIVE at build time)", &Oracle);
+    #[cfg(not(feature = "archive"))]
+    return ("the oracle itself (built without the feature archive)", &Oracle);
 }

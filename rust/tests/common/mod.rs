@@ -4,7 +4,6 @@
 use yokeglimmer::{Register, State};
 
 pub const ADD: u32 = 1;
-pub const MUL: u32 = 3;
 pub const DIV: u32 = 5;
 pub const ADDI: u32 = 9;
 pub const SLLI: u32 = 19;

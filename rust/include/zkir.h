@@ -1,0 +1,60 @@
+/* The host's call of the proved zkIR core. It needs no library but the archive that `rt staticlib host` makes. */
+#ifndef ZKIR_H
+#define ZKIR_H
+
+#include <stddef.h>
+#include <stdint.h>
+
+#ifdef __cplusplus
+extern "C" {
+#endif
+
+/* The state, 400 bytes, every number little-endian: a header, then sixteen records, of R0 to R15.
+ *
+ *   header   pc (8), halt mark 0 or 1, 7 zeros
+ *   record   kind 0 (whole) or 1 (accumulated), bound 0 to 64, 6 zeros, two numbers of 8:
+ *            the value and 0 if it is whole, else the low and the high limb, each below 2^30
+ *
+ * R0's record is all zeros. An accumulated register's value is low + 2^20 * high, modulo 2^40. */
+#define ZKIR_REGISTERS 16
+#define ZKIR_HEADER_BYTES 16
+#define ZKIR_RECORD_BYTES 24
+#define ZKIR_STATE_BYTES 400
+
+/* The answer, three little-endian numbers of 8: code, steps, particular. Steps are the instructions completed. */
+#define ZKIR_ANSWER_BYTES 24
+
+/* The modes. A plain run refuses a state with an accumulated register. */
+#define ZKIR_PLAIN 0
+#define ZKIR_DEFERRED 1
+
+/* The codes, with the particular of each; it is 0 at the others. */
+#define ZKIR_FUEL 0          /* the fuel is used up */
+#define ZKIR_DIVISOR_ZERO 1  /* pc */
+#define ZKIR_BEYOND 2        /* address, which with the access's size reaches beyond memory */
+#define ZKIR_MISALIGNED 3    /* address, which is no multiple of the access's size */
+#define ZKIR_BAD_OPCODE 4    /* word, whose opcode is 0 or over 50 */
+#define ZKIR_UNUSED_BITS 5   /* word, with unused bits set or a shift amount over 63 */
+#define ZKIR_PC_MISALIGNED 6 /* pc, which is no multiple of 4 */
+#define ZKIR_PC_BEYOND 7     /* pc, whose four bytes reach beyond memory */
+#define ZKIR_LIST_FULL 8     /* pc; zkir_run lends no list and never answers it */
+#define ZKIR_MALFORMED 9     /* an argument is malformed */
+#define ZKIR_EBREAK 64       /* the state is halted, its pc at the Ebreak */
+#define ZKIR_ECALL 65        /* the pc is behind the Ecall */
+
+/* Runs at most `fuel` instructions from the state's pc, over memory from address 0, and returns the code.
+ *
+ * A wrong length, mode or state is refused: 9 is returned, state and memory stay as they were, and the answer becomes
+ * 9, 0, 0 if it has 24 bytes, else it isn't written.
+ *
+ * The caller lends three pieces of memory that do not overlap, each with at least as many bytes as its length says. No
+ * pointer is null, even if its length is 0. Nothing is kept after the call, and calls on different states may run at
+ * the same time. */
+uint64_t zkir_run(uint8_t *state, size_t state_length, uint8_t *memory, size_t memory_length, uint8_t *answer,
+                  size_t answer_length, uint64_t fuel, uint64_t mode);
+
+#ifdef __cplusplus
+}
+#endif
+
+#endif
