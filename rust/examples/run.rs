@@ -30,7 +30,7 @@ fn main() -> ExitCode {
     for mode in [Mode::Plain, Mode::Deferred] {
         let mut state = State::new(0);
         let answer = run(&mut state, &mut memory.clone(), FUEL, mode);
-        println!("{mode:?}: {answer}, pc {}", state.pc());
+        println!("{mode:?}: {answer}, pc: {}", state.pc());
         print_registers(&state);
     }
     ExitCode::SUCCESS

@@ -21,7 +21,7 @@
 //!
 //! // A refusal says what and where.
 //! let refused = run(&mut State::new(12), &mut memory, 1_000, Mode::Plain);
-//! assert_eq!(refused.to_string(), "refused (7): the instruction at pc 12 reaches beyond memory; 0 steps");
+//! assert_eq!(refused.to_string(), "refused (7): the instruction at pc 12 reaches beyond memory; steps: 0");
 //! ```
 
 mod bytes;

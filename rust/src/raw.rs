@@ -17,8 +17,8 @@ mod archive {
     }
 }
 
-/// `zkir_run` over bytes: the state's, the memory's, the answer's (code, steps, particular); mode 0 is plain, 1 deferred.
-/// The code is also returned.
+/// `zkir_run` over bytes: the state's, the memory's and the answer's, which are code, steps and particular. Mode 0 is
+/// plain, 1 deferred. The code is also returned.
 ///
 /// Every argument is allowed. A malformed one is refused with code 9, and then nothing is changed but the answer, and
 /// that only if it has 24 bytes.

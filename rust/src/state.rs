@@ -85,7 +85,7 @@ impl State {
         (0..REGISTERS).any(|n| matches!(self.register(n), Register::Accumulated { .. }))
     }
 
-    /// Changes what register n holds, not its bound. Limbs of 2^30, and anything else than a whole 0 in R0, are refused.
+    /// Changes what register n holds, not its bound. Limbs of 2^30 and anything but a whole 0 in R0 are refused.
     pub fn set_register(&mut self, n: usize, register: Register) -> Result<(), Malformed> {
         let (kind, first, second) = match register {
             Register::Whole(value) => (WHOLE, value, 0),

@@ -158,6 +158,6 @@ pub struct Answer {
 
 impl fmt::Display for Answer {
     fn fmt(&self, f: &mut fmt::Formatter<'_>) -> fmt::Result {
-        write!(f, "{}; {} steps", self.stop, self.steps)
+        write!(f, "{}; steps: {}", self.stop, self.steps)
     }
 }

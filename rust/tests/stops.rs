@@ -51,9 +51,9 @@ fn each_refusal_has_its_number_its_particular_and_words() {
 #[test]
 fn each_stop_has_its_code_and_words() {
     let all = [
-        (Stop::Fuel, 0, "stopped as the fuel is used up; 3 steps"),
-        (Stop::Ebreak, 64, "stopped at an Ebreak; 3 steps"),
-        (Stop::Ecall, 65, "stopped at an Ecall; 3 steps"),
+        (Stop::Fuel, 0, "stopped as the fuel is used up; steps: 3"),
+        (Stop::Ebreak, 64, "stopped at an Ebreak; steps: 3"),
+        (Stop::Ecall, 65, "stopped at an Ecall; steps: 3"),
     ];
     for (stop, code, words) in all {
         assert_eq!(stop.code(), code);

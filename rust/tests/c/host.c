@@ -1,5 +1,5 @@
 /* Calls zkir_run with right and with damaged arguments, and compares every byte that is lent with what it must be.
- * printf is declared here and not included: the program is also compiled for x86-64 where there are no headers for it. */
+ * printf is declared and not included: the program is also compiled for x86-64 where there are no headers for that. */
 #include "zkir.h"
 
 int printf(const char *format, ...);
@@ -58,7 +58,8 @@ static struct call right_call(uint64_t mode) {
 /* Makes the call and compares its result, and the three buffers with those of `after`. */
 static void expect(const char *name, const struct call *given, const struct call *after, uint64_t code) {
     struct call c = *given;
-    uint64_t told = zkir_run(c.state, c.state_length, c.memory, c.memory_length, c.answer, c.answer_length, c.fuel, c.mode);
+    uint64_t told =
+        zkir_run(c.state, c.state_length, c.memory, c.memory_length, c.answer, c.answer_length, c.fuel, c.mode);
     check(told == code, name, "result");
     check(same(c.state, after->state), name, "state");
     check(same(c.memory, after->memory), name, "memory");
@@ -96,7 +97,8 @@ static void the_example_program(void) {
 }
 
 /* One word at pc 0 with R1 at 60 and R2 at 7, refused or stopped; pc and memory's length may differ. */
-static void one_word(const char *name, uint32_t word, uint64_t pc, size_t memory_length, uint64_t code, uint64_t particular) {
+static void one_word(const char *name, uint32_t word, uint64_t pc, size_t memory_length, uint64_t code,
+                     uint64_t particular) {
     for (uint64_t mode = ZKIR_PLAIN; mode <= ZKIR_DEFERRED; mode++) {
         struct call c = right_call(mode), after;
         for (int i = 0; i < 4; i++)
