@@ -14,10 +14,10 @@ fn each_refusal_has_its_number_its_particular_and_words() {
             "refused (3): the access at address 1 is not at a multiple of its size",
         ),
         (
-            Refusal::BadOpcode { word: 0x80000033 },
+            Refusal::BadOpcode { word: 0x800000f3 },
             4,
-            0x80000033,
-            "refused (4): the word 0x80000033 has the opcode 51, and opcodes are 1 to 50",
+            0x800000f3,
+            "refused (4): the word 0x800000f3 has the opcode 115, and opcodes are 1 to 50",
         ),
         (
             Refusal::UnusedBits { word: 0xb2 },
