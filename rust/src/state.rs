@@ -29,7 +29,8 @@ impl Register {
 
 /// The pc, the halt mark, and sixteen registers with a bound each. R0 is always whole, zero, with bound 0.
 ///
-/// It is kept as its 400 bytes, which every function here leaves well-formed; that a run does so too is proved.
+/// It is kept as its 400 bytes, which every function here leaves well-formed. That a run does so too follows from what is
+/// proved, `RunsKeep` in `crates/agreement` and `written-admissible` in `crates/host`.
 #[derive(Clone, PartialEq, Eq, Hash)]
 pub struct State {
     pub(crate) bytes: [u8; STATE_BYTES],
