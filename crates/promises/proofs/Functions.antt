@@ -1,0 +1,375 @@
+-- Each public function, in the order of crates.txt: two outcomes that its own contract allows are one. The name of a law is the function's,
+-- crate·module·function, and `tools/promises` holds this list to the source.
+use mathlib.Core.List.{[]}
+use Rattle.encoding.proofs as encoding
+use Rattle.value.proofs as value
+use Rattle.bound.proofs as bound
+use Rattle.refusal.proofs as refusal
+use Rattle.memory.proofs as memory
+use Rattle.opcode.proofs as opcode
+use Rattle.instruction.proofs as instruction
+use Rattle.state.proofs as state
+use Rattle.effect.proofs as effect
+use Rattle.execute.proofs as execute
+use Rattle.run.proofs as run
+use Rattle.host.proofs as host
+use Rattle.state.specs.Registers.{Registers}
+use Rattle.execute.specs.World.{Stepped}
+use Rattle.run.specs.Pending.{Lists}
+use Rattle.run.specs.Step.{Left}
+use Rattle.run.specs.Run.{Answer}
+use Rattle.host.specs.Call.{Called}
+use Rattle.promises.specs.Determined.{Determined}
+use Rattle.promises.proofs.Laws.{one, two, _&_}
+use Rattle.promises.proofs.Regrouped.{advanceOf, executedOf, oneStepOf, ranOf}
+
+-- ---- encoding
+pub encoding·fields·extract-opcode : Determined encoding.fields.extract_opcode.ended encoding.fields.extract_opcode.Reads.Learnt
+encoding·fields·extract-opcode κs a x y = one (λ r. r & x .1)
+
+pub encoding·fields·extract-rd : Determined encoding.fields.extract_rd.ended encoding.fields.extract_rd.Reads.Learnt
+encoding·fields·extract-rd κs a x y = one (λ r. r & x .1)
+
+pub encoding·fields·extract-rs1 : Determined encoding.fields.extract_rs1.ended encoding.fields.extract_rs1.Reads.Learnt
+encoding·fields·extract-rs1 κs a x y = one (λ r. r & x .1)
+
+pub encoding·fields·extract-rs2 : Determined encoding.fields.extract_rs2.ended encoding.fields.extract_rs2.Reads.Learnt
+encoding·fields·extract-rs2 κs a x y = one (λ r. r & x .1)
+
+pub encoding·fields·extract-imm : Determined encoding.fields.extract_imm.ended encoding.fields.extract_imm.Reads.Learnt
+encoding·fields·extract-imm κs a x y = one (λ r. r & x .1)
+
+pub encoding·fields·extract-funct : Determined encoding.fields.extract_funct.ended encoding.fields.extract_funct.Reads.Learnt
+encoding·fields·extract-funct κs a x y = one (λ r. r & x .1)
+
+pub encoding·fields·extract-offset : Determined encoding.fields.extract_offset.ended encoding.fields.extract_offset.Reads.Learnt
+encoding·fields·extract-offset κs a x y = one (λ r. r & x .1)
+
+pub encoding·fields·extract-imm-signed : Determined encoding.fields.extract_imm_signed.ended encoding.fields.extract_imm_signed.Reads.Learnt
+encoding·fields·extract-imm-signed κs a x y = one (λ r. r & x .1)
+
+pub encoding·fields·extract-offset-signed : Determined encoding.fields.extract_offset_signed.ended encoding.fields.extract_offset_signed.Reads.Learnt
+encoding·fields·extract-offset-signed κs a x y = one (λ r. r & x .1)
+
+pub encoding·fields·extract-stype-rs1 : Determined encoding.fields.extract_stype_rs1.ended encoding.fields.extract_stype_rs1.Reads.Learnt
+encoding·fields·extract-stype-rs1 κs a x y = one (λ r. r & x .1)
+
+pub encoding·fields·extract-stype-rs2 : Determined encoding.fields.extract_stype_rs2.ended encoding.fields.extract_stype_rs2.Reads.Learnt
+encoding·fields·extract-stype-rs2 κs a x y = one (λ r. r & x .1)
+
+pub encoding·fields·extract-stype-imm : Determined encoding.fields.extract_stype_imm.ended encoding.fields.extract_stype_imm.Reads.Learnt
+encoding·fields·extract-stype-imm κs a x y = one (λ r. r & x .1)
+
+pub encoding·kinds·is-stype : Determined encoding.kinds.is_stype.ended encoding.kinds.is_stype.Reads.Learnt
+encoding·kinds·is-stype κs a x y = one (λ r. r & x .1)
+
+pub encoding·kinds·is-btype : Determined encoding.kinds.is_btype.ended encoding.kinds.is_btype.Reads.Learnt
+encoding·kinds·is-btype κs a x y = one (λ r. r & x .1)
+
+pub encoding·kinds·is-jtype : Determined encoding.kinds.is_jtype.ended encoding.kinds.is_jtype.Reads.Learnt
+encoding·kinds·is-jtype κs a x y = one (λ r. r & x .1)
+
+pub encoding·kinds·is-itype : Determined encoding.kinds.is_itype.ended encoding.kinds.is_itype.Reads.Learnt
+encoding·kinds·is-itype κs a x y = one (λ r. r & x .1)
+
+pub encoding·kinds·is-rtype : Determined encoding.kinds.is_rtype.ended encoding.kinds.is_rtype.Reads.Learnt
+encoding·kinds·is-rtype κs a x y = one (λ r. r & x .1)
+
+pub encoding·raw·encode-rtype : Determined encoding.raw.encode_rtype.ended encoding.raw.encode_rtype.Reads.Learnt
+encoding·raw·encode-rtype κs a x y = one (λ r. r & x .1)
+
+pub encoding·raw·encode-itype : Determined encoding.raw.encode_itype.ended encoding.raw.encode_itype.Reads.Learnt
+encoding·raw·encode-itype κs a x y = one (λ r. r & x .1)
+
+pub encoding·raw·encode-stype : Determined encoding.raw.encode_stype.ended encoding.raw.encode_stype.Reads.Learnt
+encoding·raw·encode-stype κs a x y = one (λ r. r & x .1)
+
+pub encoding·raw·encode-btype : Determined encoding.raw.encode_btype.ended encoding.raw.encode_btype.Reads.Learnt
+encoding·raw·encode-btype κs a x y = one (λ r. r & x .1)
+
+pub encoding·raw·encode-jtype : Determined encoding.raw.encode_jtype.ended encoding.raw.encode_jtype.Reads.Learnt
+encoding·raw·encode-jtype κs a x y = one (λ r. r & x .1)
+
+-- ---- value
+pub value·address·plus : Determined value.address.plus.ended value.address.plus.Reads.Learnt
+value·address·plus κs a x y = one (λ r. r & x .1)
+
+pub value·division·div : Determined value.division.div.ended value.division.div.Reads.Learnt
+value·division·div κs a x y = one (λ r. r & x .1)
+
+pub value·division·rem : Determined value.division.rem.ended value.division.rem.Reads.Learnt
+value·division·rem κs a x y = one (λ r. r & x .1)
+
+pub value·division·divu : Determined value.division.divu.ended value.division.divu.Reads.Learnt
+value·division·divu κs a x y = one (λ r. r & x .1)
+
+pub value·division·remu : Determined value.division.remu.ended value.division.remu.Reads.Learnt
+value·division·remu κs a x y = one (λ r. r & x .1)
+
+pub value·extension·extend-8 : Determined value.extension.extend_8.ended value.extension.extend_8.Reads.Learnt
+value·extension·extend-8 κs a x y = one (λ r. r & x .1)
+
+pub value·extension·extend-16 : Determined value.extension.extend_16.ended value.extension.extend_16.Reads.Learnt
+value·extension·extend-16 κs a x y = one (λ r. r & x .1)
+
+pub value·extension·extend-17 : Determined value.extension.extend_17.ended value.extension.extend_17.Reads.Learnt
+value·extension·extend-17 κs a x y = one (λ r. r & x .1)
+
+pub value·extension·extend-21 : Determined value.extension.extend_21.ended value.extension.extend_21.Reads.Learnt
+value·extension·extend-21 κs a x y = one (λ r. r & x .1)
+
+pub value·forty·add : Determined value.forty.add.ended value.forty.add.Reads.Learnt
+value·forty·add κs a x y = one (λ r. r & x .1)
+
+pub value·forty·sub : Determined value.forty.sub.ended value.forty.sub.Reads.Learnt
+value·forty·sub κs a x y = one (λ r. r & x .1)
+
+pub value·forty·mul : Determined value.forty.mul.ended value.forty.mul.Reads.Learnt
+value·forty·mul κs a x y = one (λ r. r & x .1)
+
+pub value·forty·and : Determined value.forty.and.ended value.forty.and.Reads.Learnt
+value·forty·and κs a x y = one (λ r. r & x .1)
+
+pub value·forty·or : Determined value.forty.or.ended value.forty.or.Reads.Learnt
+value·forty·or κs a x y = one (λ r. r & x .1)
+
+pub value·forty·xor : Determined value.forty.xor.ended value.forty.xor.Reads.Learnt
+value·forty·xor κs a x y = one (λ r. r & x .1)
+
+pub value·forty·shl : Determined value.forty.shl.ended value.forty.shl.Reads.Learnt
+value·forty·shl κs a x y = one (λ r. r & x .1)
+
+pub value·forty·shr : Determined value.forty.shr.ended value.forty.shr.Reads.Learnt
+value·forty·shr κs a x y = one (λ r. r & x .1)
+
+pub value·forty·sra : Determined value.forty.sra.ended value.forty.sra.Reads.Learnt
+value·forty·sra κs a x y = one (λ r. r & x .1)
+
+pub value·forty·slt : Determined value.forty.slt.ended value.forty.slt.Reads.Learnt
+value·forty·slt κs a x y = one (λ r. r & x .1)
+
+pub value·forty·ult : Determined value.forty.ult.ended value.forty.ult.Reads.Learnt
+value·forty·ult κs a x y = one (λ r. r & x .1)
+
+pub value·product·mulh : Determined value.product.mulh.ended value.product.mulh.Reads.Learnt
+value·product·mulh κs a x y = one (λ r. r & x .1)
+
+-- ---- bound
+pub bound·from-constant : Determined bound.from_constant.ended bound.from_constant.Reads.Learnt
+bound·from-constant κs a x y = one (λ r. r & x .1)
+
+pub bound·after-add : Determined bound.after_add.ended bound.after_add.Reads.Learnt
+bound·after-add κs a x y = one (λ r. r & x .1)
+
+pub bound·after-sub : Determined bound.after_sub.ended bound.after_sub.Reads.Learnt
+bound·after-sub κs a x y = one (λ r. r & x .1)
+
+pub bound·after-move : Determined bound.after_move.ended bound.after_move.Reads.Learnt
+bound·after-move κs a x y = one (λ r. r & x .1)
+
+pub bound·after-mul : Determined bound.after_mul.ended bound.after_mul.Reads.Learnt
+bound·after-mul κs a x y = one (λ r. r & x .1)
+
+pub bound·after-div : Determined bound.after_div.ended bound.after_div.Reads.Learnt
+bound·after-div κs a x y = one (λ r. r & x .1)
+
+pub bound·after-and : Determined bound.after_and.ended bound.after_and.Reads.Learnt
+bound·after-and κs a x y = one (λ r. r & x .1)
+
+pub bound·after-shl : Determined bound.after_shl.ended bound.after_shl.Reads.Learnt
+bound·after-shl κs a x y = one (λ r. r & x .1)
+
+pub bound·after-srl : Determined bound.after_srl.ended bound.after_srl.Reads.Learnt
+bound·after-srl κs a x y = one (λ r. r & x .1)
+
+pub bound·after-sra : Determined bound.after_sra.ended bound.after_sra.Reads.Learnt
+bound·after-sra κs a x y = one (λ r. r & x .1)
+
+pub bound·after-cmp : Determined bound.after_cmp.ended bound.after_cmp.Reads.Learnt
+bound·after-cmp κs a x y = one (λ r. r & x .1)
+
+pub bound·after-load : Determined bound.after_load.ended bound.after_load.Reads.Learnt
+bound·after-load κs a x y = one (λ r. r & x .1)
+
+pub bound·needs-check : Determined bound.needs_check.ended bound.needs_check.Reads.Learnt
+bound·needs-check κs a x y = one (λ r. r & x .1)
+
+-- ---- refusal
+pub refusal·number : Determined refusal.number.ended refusal.number.Reads.Learnt
+refusal·number κs a x y = one (λ r. r & x .1)
+
+pub refusal·particular : Determined refusal.particular.ended refusal.particular.Reads.Learnt
+refusal·particular κs a x y = one (λ r. r & x .1)
+
+pub refusal·code : Determined refusal.code.ended refusal.code.Reads.Learnt
+refusal·code κs a x y = one (λ r. r & x .1)
+
+pub refusal·particular-at : Determined refusal.particular_at.ended refusal.particular_at.Reads.Learnt
+refusal·particular-at κs a x y = one (λ r. r & x .1)
+
+-- ---- memory
+pub memory·bytes·number-at : Determined memory.bytes.number_at.ended memory.bytes.number_at.Reads.Learnt
+memory·bytes·number-at κs a x y = one (λ r. r & x .1)
+
+pub memory·bytes·put-number : Determined memory.bytes.put_number.ended memory.bytes.put_number.Reads.Learnt
+memory·bytes·put-number κs a x y = one (λ m. tt & m & x .1 .1)
+
+pub memory·size-of : Determined memory.size_of.ended memory.size_of.Reads.Learnt
+memory·size-of κs a x y = one (λ r. r & x .1)
+
+pub memory·reach : Determined memory.reach.ended memory.reach.Reads.Learnt
+memory·reach κs a x y = one (λ r. r & x .1)
+
+pub memory·load : Determined memory.load.ended memory.load.Reads.Learnt
+memory·load κs a x y = one (λ r. r & x .1)
+
+pub memory·storable : Determined memory.storable.ended memory.storable.Reads.Learnt
+memory·storable κs a x y = one (λ r. r & x .1)
+
+pub memory·store : Determined memory.store.ended memory.store.Reads.Learnt
+memory·store κs a x y = two (λ r m. r & m & x .1 .1)
+
+pub memory·fetch : Determined memory.fetch.ended memory.fetch.Reads.Learnt
+memory·fetch κs a x y = one (λ r. r & x .1)
+
+-- ---- opcode
+pub opcode·forms·unused : Determined opcode.forms.unused.ended opcode.forms.unused.Reads.Learnt
+opcode·forms·unused κs a x y = one (λ r. r & x .1)
+
+pub opcode·forms·immediate : Determined opcode.forms.immediate.ended opcode.forms.immediate.Reads.Learnt
+opcode·forms·immediate κs a x y = one (λ r. r & x .1)
+
+pub opcode·forms·imm-fits : Determined opcode.forms.imm_fits.ended opcode.forms.imm_fits.Reads.Learnt
+opcode·forms·imm-fits κs a x y = one (λ r. r & x .1)
+
+pub opcode·number : Determined opcode.number.ended opcode.number.Reads.Learnt
+opcode·number κs a x y = one (λ r. r & x .1)
+
+pub opcode·opcode-of : Determined opcode.opcode_of.ended opcode.opcode_of.Reads.Learnt
+opcode·opcode-of κs a x y = one (λ r. r & x .1)
+
+pub opcode·form-of : Determined opcode.form_of.ended opcode.form_of.Reads.Learnt
+opcode·form-of κs a x y = one (λ r. r & x .1)
+
+-- ---- instruction
+pub instruction·decoder·take : Determined instruction.decoder.take.ended instruction.decoder.take.Reads.Learnt
+instruction·decoder·take κs a x y = one (λ r. r & x .1)
+
+pub instruction·decoder·decode : Determined instruction.decoder.decode.ended instruction.decoder.decode.Reads.Learnt
+instruction·decoder·decode κs a x y = one (λ r. r & x .1)
+
+pub instruction·encoder·fits : Determined instruction.encoder.fits.ended instruction.encoder.fits.Reads.Learnt
+instruction·encoder·fits κs a x y = one (λ r. r & x .1)
+
+pub instruction·encoder·encode : Determined instruction.encoder.encode.ended instruction.encoder.encode.Reads.Learnt
+instruction·encoder·encode κs a x y = one (λ r. r & x .1)
+
+pub instruction·operands·joined : Determined instruction.operands.joined.ended instruction.operands.joined.Reads.Learnt
+instruction·operands·joined κs a x y = one (λ r. r & x .1)
+
+pub instruction·operands·parts-of : Determined instruction.operands.parts_of.ended instruction.operands.parts_of.Reads.Learnt
+instruction·operands·parts-of κs a x y = one (λ r. r & x .1)
+
+-- ---- state
+pub state·formed·well-formed : Determined state.formed.well_formed.ended state.formed.well_formed.Reads.Learnt
+state·formed·well-formed κs a x y = one (λ r. r & x .1)
+
+pub state·formed·all-whole : Determined state.formed.all_whole.ended state.formed.all_whole.Reads.Learnt
+state·formed·all-whole κs a x y = one (λ r. r & x .1)
+
+pub state·fresh : Determined state.fresh.ended state.fresh.Reads.Learnt
+state·fresh κs a x y = one (λ r. r & x .1)
+
+pub state·normalize·has-carries : Determined state.normalize.has_carries.ended state.normalize.has_carries.Reads.Learnt
+state·normalize·has-carries κs a x y = one (λ r. r & x .1)
+
+pub state·normalize·total-carry : Determined state.normalize.total_carry.ended state.normalize.total_carry.Reads.Learnt
+state·normalize·total-carry κs a x y = one (λ r. r & x .1)
+
+pub state·normalize·would-overflow : Determined state.normalize.would_overflow.ended state.normalize.would_overflow.Reads.Learnt
+state·normalize·would-overflow κs a x y = one (λ r. r & x .1)
+
+pub state·normalize·normalize-register : Determined state.normalize.normalize_register.ended state.normalize.normalize_register.Reads.Learnt
+state·normalize·normalize-register κs a x y = one (λ r. r & x .1)
+
+pub state·normalize·normalize-and-write : Determined state.normalize.normalize_and_write.ended state.normalize.normalize_and_write.Reads.Learnt
+state·normalize·normalize-and-write κs a x y = one (λ r. r & x .1)
+
+pub state·normalize·normalize-if-near-overflow : Determined state.normalize.normalize_if_near_overflow.ended state.normalize.normalize_if_near_overflow.Reads.Learnt
+state·normalize·normalize-if-near-overflow κs a x y = one (λ r. r & x .1)
+
+pub state·registers·value-at : Determined state.registers.value_at.ended state.registers.value_at.Reads.Learnt
+state·registers·value-at κs a x y = one (λ r. r & x .1)
+
+pub state·registers·low-at : Determined state.registers.low_at.ended state.registers.low_at.Reads.Learnt
+state·registers·low-at κs a x y = λ p q. one (λ r. r & x .1) (p .0) (q .0)
+
+pub state·registers·high-at : Determined state.registers.high_at.ended state.registers.high_at.Reads.Learnt
+state·registers·high-at κs a x y = λ p q. one (λ r. r & x .1) (p .0) (q .0)
+
+pub state·registers·bound-at : Determined state.registers.bound_at.ended state.registers.bound_at.Reads.Learnt
+state·registers·bound-at κs a x y = one (λ r. r & x .1)
+
+pub state·registers·waits-at : Determined state.registers.waits_at.ended state.registers.waits_at.Reads.Learnt
+state·registers·waits-at κs a x y = one (λ r. r & x .1)
+
+pub state·registers·write : Determined state.registers.write.ended state.registers.write.Reads.Learnt
+state·registers·write κs a x y = one (λ (R : Registers). tt & R .values & R .accumulated & R .bounds & x .1 .1 .1 .1)
+
+pub state·registers·normalise : Determined state.registers.normalise.ended state.registers.normalise.Reads.Learnt
+state·registers·normalise κs a x y = λ p q. one (λ (R : Registers). tt & R .values & R .accumulated & x .1 .1 .1) (p []) (q [])
+
+pub state·registers·normalise-all : Determined state.registers.normalise_all.ended state.registers.normalise_all.Reads.Learnt
+state·registers·normalise-all κs a x y = λ p q. one (λ (R : Registers). tt & R .values & R .accumulated & x .1 .1 .1) (p []) (q [])
+
+-- ---- effect
+pub effect·effect-of : Determined effect.effect_of.ended effect.effect_of.Reads.Learnt
+effect·effect-of κs a x y = one (λ r. r & x .1)
+
+-- ---- execute
+pub execute·lent·execute : Determined execute.lent.execute.ended execute.lent.execute.Reads.Learnt
+execute·lent·execute κs a x y = one (λ (s : Stepped). let R = s .world .registers in advanceOf s & tt & tt & tt & tt & tt & R .values & R .accumulated & R .bounds & s .world .memory & tt)
+
+pub execute·admits : Determined execute.admits.ended execute.admits.Reads.Learnt
+execute·admits κs a x y = one (λ r. r & x .1)
+
+pub execute·execute : Determined execute.execute.ended execute.execute.Reads.Learnt
+execute·execute κs a x y = one (λ (s : Stepped). executedOf s & tt & tt & tt & s .world .memory & tt)
+
+-- ---- run
+pub run·step : Determined run.step.ended run.step.Reads.Learnt
+run·step κs a x y = one (λ (l : Left). oneStepOf l & tt & tt & l .world .memory & l .lists .values & l .lists .bounds & l .lists .pcs & tt & tt)
+
+pub run·run-plain : Determined run.run_plain.ended run.run_plain.Reads.Learnt
+run·run-plain κs a x y = one (λ (r : Answer). ranOf r & tt & tt & r .world .memory & r .lists .values & r .lists .bounds & r .lists .pcs & tt & tt)
+
+pub run·run-deferred : Determined run.run_deferred.ended run.run_deferred.Reads.Learnt
+run·run-deferred κs a x y = one (λ (r : Answer). ranOf r & tt & tt & r .world .memory & r .lists .values & r .lists .bounds & r .lists .pcs & tt & tt)
+
+pub run·pending·append : Determined run.pending.append.ended run.pending.append.Reads.Learnt
+run·pending·append κs a x y = two (λ r (l : Lists). r & l .values & l .bounds & l .pcs & x .1 .1 .1 .1)
+
+pub run·pending·empty : Determined run.pending.empty.ended run.pending.empty.Reads.Learnt
+run·pending·empty κs a x y = one (λ (l : Lists). l .count & l .values & l .bounds & l .pcs & x .1 .1 .1 .1)
+
+pub run·pending·read : Determined run.pending.read.ended run.pending.read.Reads.Learnt
+run·pending·read κs a x y = one (λ r. r & x .1)
+
+-- ---- host
+pub host·answer·write-answer : Determined host.answer.write_answer.ended host.answer.write_answer.Reads.Learnt
+host·answer·write-answer κs a x y = one (λ m. tt & m & x .1 .1)
+
+pub host·layout·write-state : Determined host.layout.write_state.ended host.layout.write_state.Reads.Learnt
+host·layout·write-state κs a x y = one (λ m. tt & m & x .1 .1)
+
+pub host·layout·read-state : Determined host.layout.read_state.ended host.layout.read_state.Reads.Learnt
+host·layout·read-state κs a x y = one (λ r. r & x .1)
+
+pub host·layout·well-laid : Determined host.layout.well_laid.ended host.layout.well_laid.Reads.Learnt
+host·layout·well-laid κs a x y = one (λ r. r & x .1)
+
+pub host·layout·is-admissible : Determined host.layout.is_admissible.ended host.layout.is_admissible.Reads.Learnt
+host·layout·is-admissible κs a x y = one (λ r. r & x .1)
+
+pub host·zkir-run : Determined host.zkir_run.ended host.zkir_run.Reads.Learnt
+host·zkir-run κs a x y = one (λ (c : Called). c .code & c .state & c .memory & c .answer & x .1 .1 .1 .1)

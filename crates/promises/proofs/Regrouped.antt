@@ -1,0 +1,21 @@
+-- The records in which a promise gathers what a call leaves, taken apart again.
+use Rattle.execute.specs.World.{Stepped}
+use Rattle.execute.specs.declared.Advance.{Advance}
+use Rattle.execute.specs.declared.Executed.{Executed}
+use Rattle.run.specs.Step.{Left}
+use Rattle.run.specs.Run.{Answer}
+use Rattle.run.specs.declared.OneStep.{OneStep}
+use Rattle.run.specs.declared.Ran.{Ran}
+use Rattle.host.specs.Call.{stateOf}
+
+abbrev pub advanceOf : Stepped → Advance
+advanceOf s = record { went = s .went; pc = s .world .pc; halted = s .world .halted; check = s .check }
+
+abbrev pub executedOf : Stepped → Executed
+executedOf s = record { went = s .went; check = s .check; state = stateOf (s .world) }
+
+abbrev pub oneStepOf : Left → OneStep
+oneStepOf l = record { went = l .went; count = l .lists .count; state = stateOf (l .world) }
+
+abbrev pub ranOf : Answer → Ran
+ranOf a = record { stop = a .stop; steps = a .steps; count = a .lists .count; state = stateOf (a .world) }
