@@ -1,3 +1,4 @@
 pub mod Laws
 pub mod Regrouped
 pub mod Functions
+pub mod Corners
