@@ -9,3 +9,6 @@ pub mod Sized
 pub mod Agree
 pub mod Normalised
 pub mod Runs
+pub mod Bytes
+pub mod Calls
+pub mod Contracts

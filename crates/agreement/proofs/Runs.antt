@@ -16,18 +16,18 @@ use Rattle.state.proofs.Normal.{whole-limbs}
 use Rattle.instruction.specs.Words.{decodeIn}
 use Rattle.instruction.specs.declared.Decoded.{Decoded}
 use Rattle.instruction.specs.declared.Decoded.the-variants as D
-use Rattle.execute.specs.World.{World, worldOf, Stepped}
+use Rattle.execute.specs.World.{World, Stepped}
 use Rattle.execute.specs.Execute.{admits}
 use Rattle.execute.specs.declared.Check.{Check}
 use Rattle.execute.specs.declared.Check.the-variants.{Unneeded, Needed}
 use Rattle.execute.specs.declared.Mode.{Mode}
 use Rattle.execute.specs.declared.Mode.the-variants.{Plain, Deferred}
 use Rattle.run.specs.Pending.{Lists, listsFit, listing, appended}
-use Rattle.run.specs.Step.{Rules, documentRules, obey, fetched, Left, left, stepOf}
+use Rattle.run.specs.Step.{Rules, obey, fetched, Left, left, stepOf}
 use Rattle.run.specs.Run.{Answer, answer, after, goesOn, following, loop, run}
 use Rattle.agreement.specs.Reading.{noMarks, readAll, readWorld, unchecked, readStep, Sized, noLists, readAnswer}
 use Rattle.agreement.specs.Keeping.{Formed}
-use Rattle.agreement.specs.Statements.{RunsAgree, RunsOnValues, AnswersAgree}
+use Rattle.agreement.specs.Statements.{RunsAgree, RunsOnValues}
 use Rattle.agreement.proofs.Formed.{both-true, all-from, formed, well-formed}
 use Rattle.agreement.proofs.Reading.{no-mark, read-held}
 use Rattle.agreement.proofs.Keeping.{inner-step-keeps}
@@ -35,7 +35,7 @@ use Rattle.agreement.proofs.Sized.{sized-after}
 use Rattle.agreement.proofs.Agree.{instructions-agree}
 
 -- ---- what a run is admitted with
-admits-alike : (R : Registers) → allWhole (R .accumulated) ≡ true → admits Deferred R ≡ admits Plain R
+pub admits-alike : (R : Registers) → allWhole (R .accumulated) ≡ true → admits Deferred R ≡ admits Plain R
 unfolding admits
 admits-alike R e = rw e (and-true (wellFormed R))
   where
@@ -136,6 +136,3 @@ runs-agree R fuel w z e = run-reads R fuel w z Deferred _ (admits-alike (w .regi
 pub runs-on-values : RunsOnValues
 unfolding run
 runs-on-values R fuel w z k e = run-reads R fuel w z k true e ∙ rw (admits-read k (w .registers) e)
-
-pub answers-agree : AnswersAgree
-answers-agree s fuel m z e d p dm dv db dp pm pv pb pp x y = ap readAnswer x ∙ runs-agree documentRules fuel (worldOf s m) z e ∙ sym (ap readAnswer y)

@@ -1,3 +1,4 @@
 pub mod Reading
 pub mod Keeping
+pub mod Contracts
 pub mod Statements

@@ -5,10 +5,12 @@ use mathlib.Core.List.{List, [], _∷_}
 use lib.ListN.{length}
 use Rattle.state.specs.Held.{valueOf, heldOf}
 use Rattle.state.specs.Registers.{Registers, registers}
-use Rattle.execute.specs.World.{World, world, Stepped, stepped}
+use Rattle.execute.specs.World.{World, world, worldOf, Stepped, stepped}
 use Rattle.run.specs.Pending.{Lists, lists}
 use Rattle.run.specs.Run.{Answer, answer}
 use Rattle.execute.specs.declared.Check.the-variants.{Unneeded}
+use Rattle.host.specs.Layout.{stateIn}
+use Rattle.host.specs.Call.{Called}
 
 -- each register's value; one that has no mark is whole
 unfoldable pub readValues : List ℕ → List Bool → List ℕ
@@ -45,3 +47,12 @@ noLists = lists 0 [] [] []
 -- a run's answer: the stop with its particulars, the steps, the pc, the halt mark, the memory, the bounds and the values
 abbrev pub readAnswer : Answer → Answer
 readAnswer a = answer (a .stop) (a .steps) (readWorld (a .world)) (a .lists)
+
+-- what a host's call leaves, its state bytes read: the result, the pc, the halt mark, the memory, the bounds, the values and the answer's bytes
+pub record ReadCall : Type 0 where
+  pub code : ℕ
+  pub world : World
+  pub answer : List ℕ
+
+abbrev pub readCall : Called → ReadCall
+readCall c = record { code = c .code; world = readWorld (worldOf (stateIn (c .state)) (c .memory)); answer = c .answer }

@@ -3,21 +3,28 @@ use Prim.Native.Nat.{ℕ}
 use mathlib.Core.Path.{_≡_}
 use mathlib.Core.Bool.{Bool, true, false}
 use mathlib.Core.List.{List}
+use contract.Lifetimes.{Lfts}
+use denote.Triple.Entry.{Args}
+use borrow.Fn.Kinds.{GoodsP}
 use Rattle.state.specs.Held.{Limbs}
 use Rattle.state.specs.Registers.{Registers, holds}
-use Rattle.state.specs.Formed.{registersOf, wellFormed, allWhole}
-use Rattle.state.specs.declared.State.{State}
+use Rattle.state.specs.Formed.{wellFormed, allWhole}
 use Rattle.effect.specs.Notes.{Notes}
 use Rattle.instruction.specs.declared.Instruction.{Instruction}
-use Rattle.execute.specs.World.{World, worldOf}
+use Rattle.execute.specs.World.{World}
 use Rattle.execute.specs.Execute.{execute, admits}
 use Rattle.execute.specs.declared.Mode.{Mode}
 use Rattle.execute.specs.declared.Mode.the-variants.{Plain, Deferred}
 use Rattle.run.specs.Pending.{Lists}
-use Rattle.run.specs.Step.{Rules, documentRules, step}
-use Rattle.run.specs.Run.{run, ran}
-use Rattle.run.specs.declared.Ran.{Ran}
-use Rattle.agreement.specs.Reading.{readWorld, unchecked, readStep, readAnswer, noLists, Sized}
+use Rattle.run.specs.Step.{Rules, step}
+use Rattle.run.specs.Run.{run}
+use Rattle.run.proofs.run_plain
+use Rattle.run.proofs.run_deferred
+use Rattle.host.specs.Layout.{stateIn}
+use Rattle.host.specs.Call.{taken, callOf}
+use Rattle.host.proofs.zkir_run
+use Rattle.agreement.specs.Reading.{readWorld, unchecked, readStep, readAnswer, readCall, noLists, Sized}
+use Rattle.agreement.specs.Contracts.{Leaves, Allows, worldGiven, fuelGiven, listsGiven, ranTo, bytesGiven, modeGiven, calledTo}
 use Rattle.agreement.specs.Keeping.{Capped, Normalised}
 
 -- For every memory, fuel and state with no accumulated register, and no list lent, the plain and the deferred run agree on the stop with its
@@ -39,14 +46,37 @@ InstructionsAgree =
     (k : Mode) (N : Notes) (i : Instruction) (w : World) → Sized (w .registers)
     → readStep (execute k false N i w) ≡ unchecked (execute Plain false N i (readWorld w))
 
--- What `run_deferred` and `run_plain` answer, by their promises, on one state and one memory.
+-- Of the code: whatever `run_deferred` and `run_plain` leave, as far as their own contracts allow it, on the same state, bytes of memory and
+-- fuel. `GoodsP` is what the kit knows of any arguments that are handed over: here, that a state has its sixteen marks.
 abbrev pub AnswersAgree : Type 0
 AnswersAgree =
-    (s : State) (fuel : ℕ) (m : List ℕ) → Sized (registersOf s) → allWhole (s .accumulated) ≡ true
-    → (d p : Ran) (dm dv db dp pm pv pb pp : List ℕ)
-    → ran d dm dv db dp ≡ run Deferred documentRules fuel (worldOf s m) noLists
-    → ran p pm pv pb pp ≡ run Plain documentRules fuel (worldOf s m) noLists
-    → readAnswer (ran d dm dv db dp) ≡ readAnswer (ran p pm pv pb pp)
+    (κs ρs : Lfts 4) (a : Args run_deferred.signature κs) (b : Args run_plain.signature ρs) → GoodsP κs run_deferred.Kinds.ps a
+    → worldGiven κs a ≡ worldGiven ρs b → fuelGiven κs a ≡ fuelGiven ρs b → listsGiven κs a ≡ noLists → listsGiven ρs b ≡ noLists
+    → allWhole (worldGiven κs a .registers .accumulated) ≡ true
+    → (d : Leaves run_deferred.ended κs a) (p : Leaves run_plain.ended ρs b)
+    → Allows run_deferred.ended run_deferred.Reads.Learnt κs a d → Allows run_plain.ended run_plain.Reads.Learnt ρs b p
+    → readAnswer (ranTo κs a d) ≡ readAnswer (ranTo ρs b p)
+
+-- The host's call in its two modes, on any bytes whose state has no accumulated register, taken or refused: the same result, memory and
+-- answer bytes, and state bytes that read alike.
+abbrev pub CallsAgree : Type 0
+CallsAgree =
+    (st m an : List ℕ) (fuel : ℕ) → allWhole (stateIn st .accumulated) ≡ true → readCall (callOf st m an fuel 1) ≡ readCall (callOf st m an fuel 0)
+
+-- One that the plain mode refuses before any step leaves the very same bytes in both.
+abbrev pub RefusedCallsAgree : Type 0
+RefusedCallsAgree =
+    (st m an : List ℕ) (fuel : ℕ) → allWhole (stateIn st .accumulated) ≡ true → taken st an 0 ≡ false
+    → callOf st m an fuel 1 ≡ callOf st m an fuel 0
+
+-- Of the code: whatever two calls of `zkir_run` leave, as far as its own contract allows it, on the same bytes and fuel, in either mode.
+abbrev pub HostCallsAgree : Type 0
+HostCallsAgree =
+    (κs ρs : Lfts 3) (a : Args zkir_run.signature κs) (b : Args zkir_run.signature ρs) → bytesGiven κs a ≡ bytesGiven ρs b
+    → modeGiven κs a ≡ 1 → modeGiven ρs b ≡ 0 → allWhole (stateIn (bytesGiven κs a .state) .accumulated) ≡ true
+    → (d : Leaves zkir_run.ended κs a) (p : Leaves zkir_run.ended ρs b)
+    → Allows zkir_run.ended zkir_run.Reads.Learnt κs a d → Allows zkir_run.ended zkir_run.Reads.Learnt ρs b p
+    → readCall (calledTo κs a d) ≡ readCall (calledTo ρs b p)
 
 -- After every instruction from a well-formed state the state is well-formed, with a list or without.
 abbrev pub InstructionsKeep : Type 0

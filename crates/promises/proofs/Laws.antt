@@ -11,6 +11,5 @@ two f p q = ap₂ f (p .0 ∙ sym (q .0)) (p .1 ∙ sym (q .1))
 
 -- pairs in a row, as a function's parameters stand
 infixr 2 _&_
-
 abbrev pub _&_ : {A B : Type 0} → A → B → A × B
 a & b = (a, b)

@@ -2,3 +2,4 @@ pub mod Laws
 pub mod Regrouped
 pub mod Functions
 pub mod Corners
+pub mod Control

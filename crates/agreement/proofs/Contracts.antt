@@ -1,0 +1,46 @@
+-- Agreement carried to the code, through the contracts of `run_plain`, `run_deferred` and `zkir_run`.
+use Prim.Native.Nat.{ℕ}
+use mathlib.Core.Path.{_≡_, refl, sym, ap, ap₂, _∙_}
+use mathlib.Core.List.{List}
+use lib.ListN.{length, length-map}
+use native.Mathlib.Omega.{arith}
+use contract.Lifetimes.{Lfts}
+use denote.Triple.Entry.{Args}
+use borrow.Fn.Kinds.{GoodsP}
+use Rattle.execute.specs.World.{World}
+use Rattle.execute.specs.declared.Mode.the-variants.{Plain, Deferred}
+use Rattle.run.specs.Pending.{Lists}
+use Rattle.run.specs.Step.{documentRules}
+use Rattle.run.specs.Run.{run}
+use Rattle.run.proofs.run_deferred
+use Rattle.host.specs.Call.{Called, callOf}
+use Rattle.agreement.specs.Reading.{readAnswer, readCall, Sized, noLists}
+use Rattle.agreement.specs.Contracts.{worldGiven, fuelGiven, listsGiven, bytesGiven, modeGiven}
+use Rattle.agreement.specs.Statements.{AnswersAgree, HostCallsAgree}
+use Rattle.agreement.proofs.Runs.{runs-agree}
+use Rattle.agreement.proofs.Calls.{calls-agree}
+
+-- the length of the state's fourth field, by its type
+sized : (κs : Lfts 4) (a : Args run_deferred.signature κs) → GoodsP κs run_deferred.Kinds.ps a → Sized (worldGiven κs a .registers)
+sized κs a g =
+    let long : length (a .0 .accumulated) ≡ 16 = sym (length-map (a .0 .accumulated) _) ∙ g .0 .1 .1 .1 .1 .1 .0 .1 .0 .1 in
+    omega arith
+
+pub answers-agree : AnswersAgree
+answers-agree κs ρs a b g w f la lb whole d p x y =
+    ap readAnswer x
+    ∙ ap (λ (l : Lists). readAnswer (run Deferred documentRules (fuelGiven κs a) (worldGiven κs a) l)) la
+    ∙ runs-agree documentRules (fuelGiven κs a) (worldGiven κs a) (sized κs a g) whole
+    ∙ ap₂ (λ (n : ℕ) (v : World). readAnswer (run Plain documentRules n v noLists)) f w
+    ∙ sym (ap readAnswer y ∙ ap (λ (l : Lists). readAnswer (run Plain documentRules (fuelGiven ρs b) (worldGiven ρs b) l)) lb)
+
+-- the call on given bytes, fuel standing where a result's code stands
+abbrev callOn : Called → ℕ → Called
+callOn c mode = callOf (c .state) (c .memory) (c .answer) (c .code) mode
+
+pub host-calls-agree : HostCallsAgree
+host-calls-agree κs ρs a b same one zero whole d p x y =
+    let c = bytesGiven κs a in
+    ap readCall (x ∙ ap (callOn c) one)
+    ∙ calls-agree (c .state) (c .memory) (c .answer) (c .code) whole
+    ∙ sym (ap readCall (y ∙ ap (callOn (bytesGiven ρs b)) zero ∙ ap (λ (v : Called). callOn v 0) (sym same)))
