@@ -1,7 +1,6 @@
 -- Agreement carried to the code, through the contracts of `run_plain`, `run_deferred` and `zkir_run`.
 use Prim.Native.Nat.{ℕ}
 use mathlib.Core.Path.{_≡_, refl, sym, ap, ap₂, _∙_}
-use mathlib.Core.List.{List}
 use lib.ListN.{length, length-map}
 use native.Mathlib.Omega.{arith}
 use contract.Lifetimes.{Lfts}
@@ -15,7 +14,7 @@ use Rattle.run.specs.Run.{run}
 use Rattle.run.proofs.run_deferred
 use Rattle.host.specs.Call.{Called, callOf}
 use Rattle.agreement.specs.Reading.{readAnswer, readCall, Sized, noLists}
-use Rattle.agreement.specs.Contracts.{worldGiven, fuelGiven, listsGiven, bytesGiven, modeGiven}
+use Rattle.agreement.specs.Contracts.{worldGiven, fuelGiven, listsGiven, CallGiven, callGiven}
 use Rattle.agreement.specs.Statements.{AnswersAgree, HostCallsAgree}
 use Rattle.agreement.proofs.Runs.{runs-agree}
 use Rattle.agreement.proofs.Calls.{calls-agree}
@@ -34,13 +33,12 @@ answers-agree κs ρs a b g w f la lb whole d p x y =
     ∙ ap₂ (λ (n : ℕ) (v : World). readAnswer (run Plain documentRules n v noLists)) f w
     ∙ sym (ap readAnswer y ∙ ap (λ (l : Lists). readAnswer (run Plain documentRules (fuelGiven ρs b) (worldGiven ρs b) l)) lb)
 
--- the call on given bytes, fuel standing where a result's code stands
-abbrev callOn : Called → ℕ → Called
-callOn c mode = callOf (c .state) (c .memory) (c .answer) (c .code) mode
+abbrev callOn : CallGiven → ℕ → Called
+callOn c mode = callOf (c .state) (c .memory) (c .answer) (c .fuel) mode
 
 pub host-calls-agree : HostCallsAgree
 host-calls-agree κs ρs a b same one zero whole d p x y =
-    let c = bytesGiven κs a in
+    let c = callGiven κs a in
     ap readCall (x ∙ ap (callOn c) one)
-    ∙ calls-agree (c .state) (c .memory) (c .answer) (c .code) whole
-    ∙ sym (ap readCall (y ∙ ap (callOn (bytesGiven ρs b)) zero ∙ ap (λ (v : Called). callOn v 0) (sym same)))
+    ∙ calls-agree (c .state) (c .memory) (c .answer) (c .fuel) whole
+    ∙ sym (ap readCall (y ∙ ap (callOn (callGiven ρs b)) zero ∙ ap (λ (v : CallGiven). callOn v 0) (sym same)))

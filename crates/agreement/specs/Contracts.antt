@@ -1,5 +1,6 @@
 -- A function's own contract, as the kit hands it to a caller, and what calls of the code leave by it.
 use Prim.Native.Nat.{ℕ}
+use mathlib.Core.List.{List}
 use contract.Lifetimes.{Lfts}
 use denote.Ref.{now}
 use denote.Triple.Entry.{Args, Res}
@@ -40,11 +41,16 @@ module _ (κs : Lfts 4) (a : Args run_plain.signature κs) where
   abbrev pub ranTo : Leaves run_plain.ended κs a → Answer
   ranTo x = ran (x .0) (x .1 .1 .1 .0) (x .1 .1 .1 .1 .0) (x .1 .1 .1 .1 .1 .0) (x .1 .1 .1 .1 .1 .1 .0)
 
--- the host's call: state, memory, answer, fuel, mode
+-- the host's call: state, memory and answer bytes, fuel, and then the mode
+pub record CallGiven : Type 0 where
+  pub state : List ℕ
+  pub memory : List ℕ
+  pub answer : List ℕ
+  pub fuel : ℕ
+
 module _ (κs : Lfts 3) (a : Args zkir_run.signature κs) where
-  -- its bytes and its fuel
-  abbrev pub bytesGiven : Called
-  bytesGiven = called (a .1 .1 .1 .0) (now (a .0)) (now (a .1 .0)) (now (a .1 .1 .0))
+  abbrev pub callGiven : CallGiven
+  callGiven = record { state = now (a .0); memory = now (a .1 .0); answer = now (a .1 .1 .0); fuel = a .1 .1 .1 .0 }
 
   abbrev pub modeGiven : ℕ
   modeGiven = a .1 .1 .1 .1 .0

@@ -24,7 +24,7 @@ use Rattle.host.specs.Layout.{stateIn}
 use Rattle.host.specs.Call.{taken, callOf}
 use Rattle.host.proofs.zkir_run
 use Rattle.agreement.specs.Reading.{readWorld, unchecked, readStep, readAnswer, readCall, noLists, Sized}
-use Rattle.agreement.specs.Contracts.{Leaves, Allows, worldGiven, fuelGiven, listsGiven, ranTo, bytesGiven, modeGiven, calledTo}
+use Rattle.agreement.specs.Contracts.{Leaves, Allows, worldGiven, fuelGiven, listsGiven, ranTo, callGiven, modeGiven, calledTo}
 use Rattle.agreement.specs.Keeping.{Capped, Normalised}
 
 -- For every memory, fuel and state with no accumulated register, and no list lent, the plain and the deferred run agree on the stop with its
@@ -72,8 +72,8 @@ RefusedCallsAgree =
 -- Of the code: whatever two calls of `zkir_run` leave, as far as its own contract allows it, on the same bytes and fuel, in either mode.
 abbrev pub HostCallsAgree : Type 0
 HostCallsAgree =
-    (κs ρs : Lfts 3) (a : Args zkir_run.signature κs) (b : Args zkir_run.signature ρs) → bytesGiven κs a ≡ bytesGiven ρs b
-    → modeGiven κs a ≡ 1 → modeGiven ρs b ≡ 0 → allWhole (stateIn (bytesGiven κs a .state) .accumulated) ≡ true
+    (κs ρs : Lfts 3) (a : Args zkir_run.signature κs) (b : Args zkir_run.signature ρs) → callGiven κs a ≡ callGiven ρs b
+    → modeGiven κs a ≡ 1 → modeGiven ρs b ≡ 0 → allWhole (stateIn (callGiven κs a .state) .accumulated) ≡ true
     → (d : Leaves zkir_run.ended κs a) (p : Leaves zkir_run.ended ρs b)
     → Allows zkir_run.ended zkir_run.Reads.Learnt κs a d → Allows zkir_run.ended zkir_run.Reads.Learnt ρs b p
     → readCall (calledTo κs a d) ≡ readCall (calledTo ρs b p)

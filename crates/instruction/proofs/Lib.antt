@@ -1,4 +1,3 @@
 pub mod Steps
 pub mod Wholes
 pub mod OneWord
-pub mod Corners

@@ -2,4 +2,3 @@ pub mod Files
 pub mod Below
 pub mod Cases
 pub mod Normal
-pub mod Corners

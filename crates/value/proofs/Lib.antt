@@ -4,4 +4,3 @@ pub mod Products
 pub mod Patterns
 pub mod Quotients
 pub mod Widened
-pub mod Corners
