@@ -1,7 +1,7 @@
 -- The host's call in its two modes.
 use Prim.Native.Nat.{ℕ}
 use mathlib.Core.Path.{_≡_, refl, sym, ap, _∙_}
-use mathlib.Core.Bool.{Bool, true, false, cond, _&&_}
+use mathlib.Core.Bool.{Bool, true, false, _&&_}
 use mathlib.Core.List.{List}
 use lib.ListN.{length}
 use lib.Dec.{eqb}
@@ -16,7 +16,7 @@ use Rattle.run.specs.Step.{documentRules}
 use Rattle.run.specs.Run.{Answer, run}
 use Rattle.host.specs.Layout.{table, stateIn, wellLaid}
 use Rattle.host.specs.Answer.{ANSWER_BYTES, answerBytes}
-use Rattle.host.specs.Call.{Called, called, modeOf, taken, served, ranOn, callOf}
+use Rattle.host.specs.Call.{modeOf, taken, served, ranOn, callOf}
 use Rattle.agreement.specs.Reading.{readAnswer, ReadCall, readCall, Sized, noLists}
 use Rattle.agreement.specs.Statements.{CallsAgree, RefusedCallsAgree}
 use Rattle.agreement.proofs.Formed.{both-true}

@@ -1,6 +1,6 @@
 -- Agreement carried to the code, through the contracts of `run_plain`, `run_deferred` and `zkir_run`.
 use Prim.Native.Nat.{ℕ}
-use mathlib.Core.Path.{_≡_, refl, sym, ap, ap₂, _∙_}
+use mathlib.Core.Path.{_≡_, sym, ap, ap₂, _∙_}
 use lib.ListN.{length, length-map}
 use native.Mathlib.Omega.{arith}
 use contract.Lifetimes.{Lfts}
@@ -14,7 +14,7 @@ use Rattle.run.specs.Run.{run}
 use Rattle.run.proofs.run_deferred
 use Rattle.host.specs.Call.{Called, callOf}
 use Rattle.agreement.specs.Reading.{readAnswer, readCall, Sized, noLists}
-use Rattle.agreement.specs.Contracts.{worldGiven, fuelGiven, listsGiven, CallGiven, callGiven}
+use Rattle.agreement.specs.Contracts.{worldGiven, fuelGiven, CallGiven, callGiven}
 use Rattle.agreement.specs.Statements.{AnswersAgree, HostCallsAgree}
 use Rattle.agreement.proofs.Runs.{runs-agree}
 use Rattle.agreement.proofs.Calls.{calls-agree}
