@@ -1,6 +1,7 @@
 //! The oracle: the published Rust over stand-ins written from document 01, to be compared with our code.
 
 pub mod assemble;
+pub mod bench;
 pub mod case;
 pub mod compare;
 pub mod corners;

@@ -5,7 +5,7 @@ use zkir_runtime::execute::execute;
 use zkir_runtime::memory::Memory;
 use zkir_runtime::normalize::NormalizationResult;
 use zkir_runtime::range_check::RangeCheckTracker;
-use zkir_runtime::state::VMState;
+use zkir_runtime::state::{Held, VMState};
 use zkir_spec::{decode, encode, Instruction, Register, Undecodable, ValueBound};
 
 use crate::refusal::Refusal;
@@ -44,6 +44,12 @@ pub struct Machine<'a> {
     pub memory: Memory<'a>,
     pub lists: RangeCheckTracker<'a>,
     pub tally: &'a mut Tally,
+}
+
+/// Enough of a state to undo an instruction that is refused.
+struct Before {
+    pc: u64,
+    registers: [Option<(Register, Held, ValueBound)>; 3],
 }
 
 impl Machine<'_> {
@@ -90,7 +96,7 @@ impl Machine<'_> {
 
     /// "A refused step restores even normalised sources." A refused access has written nothing, a full list neither.
     fn perform(&mut self, instruction: &Instruction, mode: Mode) -> Result<Onward, Refusal> {
-        let before = self.state;
+        let before = self.before(instruction, mode);
         let listed_before = self.lists.count;
         let mut done = match mode {
             Mode::Plain => self.plainly(instruction),
@@ -100,7 +106,7 @@ impl Machine<'_> {
             done = Err(Refusal::ListFull { pc: before.pc });
         }
         if let Err(refusal) = done {
-            self.state = before;
+            self.restore(&before);
             return Err(refusal);
         }
         self.tally.count_completed(instruction.opcode(), mode);
@@ -110,6 +116,27 @@ impl Machine<'_> {
             Instruction::Ebreak => Onward::Ebreak,
             _ => Onward::Next,
         })
+    }
+
+    /// What a refused instruction may have changed by the time that it is refused: the pc, its sources, its destination.
+    fn before(&self, instruction: &Instruction, mode: Mode) -> Before {
+        let mut before = Before { pc: self.state.pc, registers: [None; 3] };
+        if mode == Mode::Deferred || self.lists.is_lent() {
+            let [rs1, rs2] = instruction.sources();
+            before.registers = [instruction.destination(), rs1, rs2].map(|named| {
+                named.map(|register| {
+                    (register, self.state.register_states.get(register), self.state.read_bound(register))
+                })
+            });
+        }
+        before
+    }
+
+    fn restore(&mut self, before: &Before) {
+        self.state.pc = before.pc;
+        for (register, held, bound) in before.registers.into_iter().flatten() {
+            self.state.set_unchecked(register, held, bound.max_bits);
+        }
     }
 
     fn plainly(&mut self, instruction: &Instruction) -> Result<(), Refusal> {

@@ -5,6 +5,7 @@ use std::io::Read;
 use std::process::ExitCode;
 use std::time::Instant;
 
+use oracle::bench;
 use oracle::compare::Comparer;
 use oracle::generate;
 use oracle::machine::Mode;
@@ -23,6 +24,7 @@ const USAGE: &str = "usage: oracle COMMAND
   vectors FILE            writes the fixed list of the oracle's answers
   lines FILE COUNT [SEED] writes COUNT generated calls in the same form
   replay FILE             replays such a list through the subject
+  bench [ROUNDS [FUEL]]   nanoseconds per instruction, of the published Rust and of the subject
   plain, deferred         prints what the program of that name prints for standard input";
 
 fn main() -> ExitCode {
@@ -39,6 +41,7 @@ fn main() -> ExitCode {
             write_lines(&arguments[1], vectors::generated_file(number(2).unwrap_or(0), seed(3)))
         }
         Some("replay") if arguments.len() == 2 => replay(&arguments[1]),
+        Some("bench") => measured(number(1).unwrap_or(7), number(2).unwrap_or(5_000_000)),
         Some("plain") => print_program(Mode::Plain),
         Some("deferred") => print_program(Mode::Deferred),
         _ => {
@@ -141,6 +144,15 @@ fn replay(path: &str) -> bool {
         Some(line) => println!("{path}:{line}: {name} leaves something else"),
     }
     replayed.first_wrong_line.is_none()
+}
+
+/// False where the subject is slower than the published Rust.
+fn measured(rounds: u64, fuel: u64) -> bool {
+    let (name, subject) = subject();
+    println!("compared with {name}");
+    let least = bench::print(subject, rounds as usize, fuel);
+    println!("\nsmallest ratio {least:.2}");
+    least >= 1.0
 }
 
 fn print_program(mode: Mode) -> bool {
