@@ -65,7 +65,7 @@ instructions! {
 }
 
 impl Instruction {
-    /// rs1 and rs2, as far as the instruction has them.
+    /// rd, if the instruction has one.
     pub fn destination(&self) -> Option<Register> {
         match self.operands() {
             Operands::R { rd, .. } | Operands::I { rd, .. } | Operands::Shift { rd, .. } | Operands::J { rd, .. } => {
@@ -75,6 +75,7 @@ impl Instruction {
         }
     }
 
+    /// rs1 and rs2, as far as the instruction has them.
     pub fn sources(&self) -> [Option<Register>; 2] {
         match self.operands() {
             Operands::R { rs1, rs2, .. } | Operands::S { rs1, rs2, .. } | Operands::B { rs1, rs2, .. } => {
