@@ -59,15 +59,15 @@ fn listed_runs_append_and_fill() {
 
 #[test]
 fn the_vectors_are_those_made_now() {
-    let kept = include_str!("../vectors.txt");
-    assert!(kept == vectors::file(), "make the list again: cargo run --release -- vectors vectors.txt");
+    let kept = include_str!("../../crates/vectors/stdin");
+    assert!(kept == vectors::file(), "make the list again: cargo run --release -- vectors ../crates/vectors/stdin");
     assert_eq!(vectors::replay(kept, &Oracle).first_wrong_line, None);
 }
 
 #[test]
 fn the_vectors_meet_everything() {
     let mut tally = Tally::new();
-    for line in include_str!("../vectors.txt").lines().filter(|line| !line.starts_with('#')) {
+    for line in include_str!("../../crates/vectors/stdin").lines().filter(|line| !line.starts_with('#')) {
         match parse(line).expect("a line of the list") {
             Vector::Host { mut case, .. } => {
                 tallied_run(&mut case.state, &mut case.memory, &mut case.answer, case.fuel, case.mode, &mut tally);

@@ -37,8 +37,8 @@ fn header() -> String {
     let published = zkir_spec::PUBLISHED.iter().chain(zkir_runtime::PUBLISHED);
     let texts: Vec<String> = published.map(|(name, _, hash)| format!("{name} {hash:016x}")).collect();
     format!(
-        "# Answers of the oracle, made by `cargo run --release -- vectors FILE` in oracle/ from the published {}. \
-         oracle/README.md says how a line reads.\n",
+        "# Answers of the oracle, made by `cargo run --release -- vectors ../crates/vectors/stdin` in oracle/ from the \
+         published {}. oracle/README.md says how a line reads.\n",
         texts.join(", ")
     )
 }
