@@ -16,9 +16,11 @@ pub struct Call {
     pub is_listed: bool,
     pub mode: u64,
     pub fuel: u64,
+    // the lengths lent
     pub state: u64,
     pub memory: u64,
     pub answer: u64,
+    // of the lists: their length, and how many entries are in use
     pub room: u64,
     pub count: u64,
 }
@@ -144,6 +146,13 @@ fn lengths_fit(call: Call) -> bool {
         && call.answer <= ANSWER_BUFFER as u64
 }
 
+// An answer that isn't written has neither steps nor particular.
+fn answer_fits(line: &[u64; NUMBERS], call: Call, places: Places) -> bool {
+    call.answer == 24
+        || number_at(line, onward(places.answer, 1)) == 0
+            && number_at(line, onward(places.answer, 2)) == 0
+}
+
 // A run with lists has a mode, a whole state and a whole answer, and its lists fit their buffers.
 fn lists_fit(call: Call, after: u64) -> bool {
     !call.is_listed
@@ -161,6 +170,7 @@ pub fn is_well_formed(line: &[u64; NUMBERS], numbers: usize) -> bool {
     line[0] <= 1
         && places.end == numbers
         && lengths_fit(call)
+        && answer_fits(line, call, places)
         && lists_fit(call, count_after(line, call, places))
         && all_pairs_fit(line, places)
 }

@@ -121,6 +121,20 @@ fn entry(line: &[u64; NUMBERS], call: Call, places: Places, at: u64, list: u64) 
     number_at(line, onward(first, list))
 }
 
+fn entry_differs(
+    line: &[u64; NUMBERS],
+    call: Call,
+    places: Places,
+    at: u64,
+    value: u64,
+    width: u8,
+    pc: u64,
+) -> bool {
+    value != entry(line, call, places, at, 0)
+        || wide(width) != entry(line, call, places, at, 1)
+        || pc != entry(line, call, places, at, 2)
+}
+
 fn lists_differ<'a>(
     line: &'a [u64; NUMBERS],
     call: Call,
@@ -131,14 +145,7 @@ fn lists_differ<'a>(
 ) -> bool {
     let mut i: usize = 0;
     while i < LIST_BUFFER {
-        let at = i as u64;
-        if values[i] != entry(line, call, places, at, 0) {
-            return true;
-        }
-        if wide(widths[i]) != entry(line, call, places, at, 1) {
-            return true;
-        }
-        if pcs[i] != entry(line, call, places, at, 2) {
+        if entry_differs(line, call, places, i as u64, values[i], widths[i], pcs[i]) {
             return true;
         }
         i += 1;

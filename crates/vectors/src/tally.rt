@@ -75,24 +75,20 @@ fn text(s: &[u8]) {
     io::write_all(1, s);
 }
 
-fn number(n: u64) {
-    io::print_decimal(1, n);
-}
-
 fn text_if(shows: bool, s: &[u8]) {
     if shows {
         text(s);
     }
 }
 
-fn print_line(n: u64) {
-    text(b"line ");
-    number(n);
+fn number(before: &[u8], n: u64) {
+    text(before);
+    io::print_decimal(1, n);
 }
 
 pub fn malformed(t: Tally, line: u64) -> Tally {
     if t.malformed < NAMED {
-        print_line(line);
+        number(b"line ", line);
         text(b" is malformed\n");
     }
     let mut after = t;
@@ -105,7 +101,7 @@ fn differs(c: Compared) -> bool {
 }
 
 fn print_difference(line: u64, c: Compared) {
-    print_line(line);
+    number(b"line ", line);
     text(b" differs:");
     text_if(c.code_differs, b" code");
     text_if(c.state_differs, b" state");
@@ -148,24 +144,23 @@ fn opcodes_in(firsts: [bool; 128], from: usize) -> u64
     n
 }
 
+fn print_refusal(refusal: usize, n: u64) {
+    number(b" ", refusal as u64);
+    number(b": ", n);
+}
+
 fn print_refusals(stops: [u64; 13]) {
     let mut refusal: usize = 1;
     while refusal < 10 {
-        text(b" ");
-        number(refusal as u64);
-        text(b": ");
-        number(stops[refusal]);
+        print_refusal(refusal, stops[refusal]);
         refusal += 1;
     }
 }
 
 fn print_stops(stops: [u64; 13]) {
-    text(b"stops: fuel ");
-    number(stops[0]);
-    text(b" ebreak ");
-    number(stops[10]);
-    text(b" ecall ");
-    number(stops[11]);
+    number(b"stops: fuel ", stops[0]);
+    number(b" ebreak ", stops[10]);
+    number(b" ecall ", stops[11]);
     text(b" refused");
     print_refusals(stops);
     text_if(0 < stops[12], b" and codes that are none");
@@ -174,31 +169,27 @@ fn print_stops(stops: [u64; 13]) {
 
 fn print_modes(t: Tally) {
     let firsts = t.firsts;
-    text(b"modes: plain ");
-    number(t.plain);
-    text(b" deferred ");
-    number(t.deferred);
-    text(b"; opcodes that the first step completes: plain ");
-    number(opcodes_in(firsts, 0));
-    text(b" deferred ");
-    number(opcodes_in(firsts, 64));
+    number(b"modes: plain ", t.plain);
+    number(b" deferred ", t.deferred);
+    number(
+        b"; opcodes that the first step completes: plain ",
+        opcodes_in(firsts, 0),
+    );
+    number(b" deferred ", opcodes_in(firsts, 64));
     text(b"\n");
 }
 
 // The last line: a list with no call in it says so.
 fn print_verdict(t: Tally) {
     if t.calls == 0 {
-        text(b"vectors: nothing was compared, ");
+        text(b"vectors: nothing was compared");
     } else {
-        text(b"vectors: ");
-        number(t.calls);
-        text(b" calls, ");
-        number(t.listed);
-        text(b" with lists: ");
-        number(t.differing);
-        text(b" differ, ");
+        number(b"vectors: ", t.calls);
+        number(b" calls, ", t.listed);
+        number(b" with lists: ", t.differing);
+        text(b" differ");
     }
-    number(t.malformed);
+    number(b", ", t.malformed);
     text(b" lines malformed\n");
 }
 
