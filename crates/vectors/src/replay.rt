@@ -168,6 +168,16 @@ fn run_by(
     run::run_deferred(s, call.fuel, m, values, widths, pcs, count)
 }
 
+// Writes what a run leaves, as the host's call does, and answers its code.
+fn leave(r: Ran, state: &mut [u8], answer: &mut [u8]) -> u64 {
+    let stop = r.stop;
+    let after = r.state;
+    let code = refusal::code(stop);
+    host::layout::write_state(state, after);
+    host::answer::write_answer(answer, code, r.steps, refusal::particular_at(stop));
+    code
+}
+
 // What the host's call does, but with lists lent.
 fn run_listed(
     line: &[u64; NUMBERS],
@@ -191,13 +201,8 @@ fn run_listed(
         &mut widths[..w],
         &mut pcs[..p],
     );
-    let stop = r.stop;
-    let after = r.state;
-    let code = refusal::code(stop);
-    host::layout::write_state(state, after);
-    host::answer::write_answer(answer, code, r.steps, refusal::particular_at(stop));
     Called {
-        code,
+        code: leave(r, state, answer),
         lists_differ: r.count as u64 != count_after(line, call, places)
             || lists_differ(line, call, places, &values, &widths, &pcs),
     }
