@@ -1,33 +1,32 @@
-// The effect of each family of instructions, from numbers alone: the operands' values a and b, and their bounds x and y.
+// The effect of each kind of instruction, from numbers alone.
 use crate::Effect;
 use crate::Goes;
 use crate::Outcome;
 use crate::Stores;
 use crate::operation;
-use instruction::BranchKind;
-use instruction::Division;
 use instruction::LoadKind;
-use instruction::MoveKind;
-use instruction::Operation;
-use instruction::StoreKind;
 use memory::Loaded;
 use memory::Size;
 use memory::Stored;
 use refusal::Refusal;
 ghost use mathlib.Core.Path.{_≡_};
 ghost use mathlib.Core.Bool.{cond};
-ghost use Rattle.value.specs.Forty.{add40, sub40, mul40};
-ghost use Rattle.bound.specs.Bits.{bitsOf, afterAdd, afterSub, afterMul};
-ghost use Rattle.effect.specs.Operations.{plus64, result, taken};
-ghost use Rattle.effect.specs.Notes.{resultBits, documentNotes};
-ghost use Rattle.effect.specs.Effects.{writing, writes, writesChecked, goesTo, storesAt, dividing, moving, loading, storing};
+ghost use Prim.Native.Nat.{_%_};
+ghost use lib.Dec.{eqb};
+ghost use Rattle.refusal.specs.Stops.{refusalOf};
+ghost use Rattle.value.specs.Forty.{add40, sub40, mul40, and40, or40, xor40, shl40, shr40, sra40};
+ghost use Rattle.value.specs.Product.{mulhOf};
+ghost use Rattle.memory.specs.Memory.{sizeOf, storeOf};
+ghost use Rattle.bound.specs.Bits.{bitsOf, afterAdd, afterSub, afterMul, afterDiv, afterAnd, afterShl, afterSrl, afterSra, afterCmp, afterMove, afterLoad};
+ghost use Rattle.effect.specs.Operations.{plus64, bit, loaded, loadSize};
+ghost use Rattle.effect.specs.Effects.{writing, writes, writesChecked, goesTo, storesAt, onLoaded, onStorable};
 ghost use Rattle.effect.specs.declared.Goes.the-variants.{On};
+ghost use Rattle.effect.specs.declared.Outcome.the-variants.{Refuses};
 
-pub(crate) struct Operands {
-    pub a: u64,
-    pub b: u64,
-    pub x: u8,
-    pub y: u8,
+// A register's value and bound, or an immediate's.
+pub(crate) struct Operand {
+    pub value: u64,
+    pub bound: u8,
 }
 
 fn following(pc: u64) -> u64
@@ -48,6 +47,19 @@ fn writing(checked: bool, rd: u8, value: u64, bound: u8, next: u64) -> Outcome
         goes: Goes::On,
         stores: Stores::Nothing,
     })
+}
+
+fn writes(pc: u64, rd: u8, value: u64, bound: u8) -> Outcome
+    ensures { λ r. ⌜ r ≡ writes rd value bound (plus64 pc 4) ⌝ }
+{
+    writing(false, rd, value, bound, following(pc))
+}
+
+// Where the bound is above 40 bits, a check is needed.
+fn writes_checked(pc: u64, rd: u8, value: u64, bound: u8) -> Outcome
+    ensures { λ r. ⌜ r ≡ writesChecked rd value bound (plus64 pc 4) ⌝ }
+{
+    writing(bound::needs_check(bound), rd, value, bound, following(pc))
 }
 
 pub(crate) fn goes_to(next: u64, goes: Goes) -> Outcome
@@ -83,123 +95,182 @@ fn stores_at(size: Size, address: u64, value: u64, next: u64) -> Outcome
     })
 }
 
-pub(crate) fn add(pc: u64, rd: u8, o: Operands) -> Outcome
-    ensures { λ r. ⌜ r ≡ writesChecked rd (add40 (o .a) (o .b)) (afterAdd (o .x) (o .y)) (plus64 pc 4) ⌝ }
+pub(crate) fn add(pc: u64, rd: u8, s: Operand, t: Operand) -> Outcome
+    ensures { λ r. ⌜ r ≡ writesChecked rd (add40 (s .value) (t .value)) (afterAdd (s .bound) (t .bound)) (plus64 pc 4) ⌝ }
 {
-    let bound = bound::after_add(o.x, o.y);
-    writing(
-        bound::needs_check(bound),
+    writes_checked(
+        pc,
         rd,
-        value::forty::add(o.a, o.b),
-        bound,
-        following(pc),
+        value::forty::add(s.value, t.value),
+        bound::after_add(s.bound, t.bound),
     )
 }
 
 // Addi needs no check.
-pub(crate) fn add_unchecked(pc: u64, rd: u8, o: Operands) -> Outcome
-    ensures { λ r. ⌜ r ≡ writes rd (add40 (o .a) (o .b)) (afterAdd (o .x) (o .y)) (plus64 pc 4) ⌝ }
+pub(crate) fn add_unchecked(pc: u64, rd: u8, s: Operand, t: Operand) -> Outcome
+    ensures { λ r. ⌜ r ≡ writes rd (add40 (s .value) (t .value)) (afterAdd (s .bound) (t .bound)) (plus64 pc 4) ⌝ }
 {
-    writing(
-        false,
+    writes(
+        pc,
         rd,
-        value::forty::add(o.a, o.b),
-        bound::after_add(o.x, o.y),
-        following(pc),
+        value::forty::add(s.value, t.value),
+        bound::after_add(s.bound, t.bound),
     )
 }
 
-pub(crate) fn sub(pc: u64, rd: u8, o: Operands) -> Outcome
-    ensures { λ r. ⌜ r ≡ writes rd (sub40 (o .a) (o .b)) (afterSub (o .x) (o .y)) (plus64 pc 4) ⌝ }
+pub(crate) fn sub(pc: u64, rd: u8, s: Operand, t: Operand) -> Outcome
+    ensures { λ r. ⌜ r ≡ writes rd (sub40 (s .value) (t .value)) (afterSub (s .bound) (t .bound)) (plus64 pc 4) ⌝ }
 {
-    writing(
-        false,
+    writes(
+        pc,
         rd,
-        value::forty::sub(o.a, o.b),
-        bound::after_sub(o.x, o.y),
-        following(pc),
+        value::forty::sub(s.value, t.value),
+        bound::after_sub(s.bound, t.bound),
     )
 }
 
-pub(crate) fn mul(pc: u64, rd: u8, o: Operands) -> Outcome
-    ensures { λ r. ⌜ r ≡ writesChecked rd (mul40 (o .a) (o .b)) (afterMul (o .x) (o .y)) (plus64 pc 4) ⌝ }
+pub(crate) fn mul(pc: u64, rd: u8, s: Operand, t: Operand) -> Outcome
+    ensures { λ r. ⌜ r ≡ writesChecked rd (mul40 (s .value) (t .value)) (afterMul (s .bound) (t .bound)) (plus64 pc 4) ⌝ }
 {
-    let bound = bound::after_mul(o.x, o.y);
-    writing(
-        bound::needs_check(bound),
+    writes_checked(
+        pc,
         rd,
-        value::forty::mul(o.a, o.b),
-        bound,
-        following(pc),
+        value::forty::mul(s.value, t.value),
+        bound::after_mul(s.bound, t.bound),
     )
 }
 
-pub(crate) fn divide(op: Division, pc: u64, rd: u8, o: Operands) -> Outcome
-    ensures { λ r. ⌜ r ≡ dividing documentNotes op pc rd (o .a) (o .b) (o .x) (o .y) ⌝ }
+pub(crate) fn mulh(pc: u64, rd: u8, s: Operand, t: Operand) -> Outcome
+    ensures { λ r. ⌜ r ≡ writes rd (mulhOf (s .value) (t .value)) (afterMul (s .bound) (t .bound)) (plus64 pc 4) ⌝ }
 {
-    if o.b == 0 {
+    writes(
+        pc,
+        rd,
+        value::product::mulh(s.value, t.value),
+        bound::after_mul(s.bound, t.bound),
+    )
+}
+
+pub(crate) fn and(pc: u64, rd: u8, s: Operand, t: Operand) -> Outcome
+    ensures { λ r. ⌜ r ≡ writes rd (and40 (s .value) (t .value)) (afterAnd (s .bound) (t .bound)) (plus64 pc 4) ⌝ }
+{
+    writes(
+        pc,
+        rd,
+        value::forty::and(s.value, t.value),
+        bound::after_and(s.bound, t.bound),
+    )
+}
+
+pub(crate) fn or(pc: u64, rd: u8, s: Operand, t: Operand) -> Outcome
+    ensures { λ r. ⌜ r ≡ writes rd (or40 (s .value) (t .value)) (afterSub (s .bound) (t .bound)) (plus64 pc 4) ⌝ }
+{
+    writes(
+        pc,
+        rd,
+        value::forty::or(s.value, t.value),
+        bound::after_sub(s.bound, t.bound),
+    )
+}
+
+pub(crate) fn xor(pc: u64, rd: u8, s: Operand, t: Operand) -> Outcome
+    ensures { λ r. ⌜ r ≡ writes rd (xor40 (s .value) (t .value)) (afterSub (s .bound) (t .bound)) (plus64 pc 4) ⌝ }
+{
+    writes(
+        pc,
+        rd,
+        value::forty::xor(s.value, t.value),
+        bound::after_sub(s.bound, t.bound),
+    )
+}
+
+pub(crate) fn sll(pc: u64, rd: u8, s: Operand, t: Operand) -> Outcome
+    ensures { λ r. ⌜ r ≡ writes rd (shl40 (s .value) (t .value % 64)) (afterShl (s .bound) (t .value % 64)) (plus64 pc 4) ⌝ }
+{
+    writes(
+        pc,
+        rd,
+        value::forty::shl(s.value, t.value % 64),
+        bound::after_shl(s.bound, t.value % 64),
+    )
+}
+
+pub(crate) fn srl(pc: u64, rd: u8, s: Operand, t: Operand) -> Outcome
+    ensures { λ r. ⌜ r ≡ writes rd (shr40 (s .value) (t .value % 64)) (afterSrl (s .bound) (t .value % 64)) (plus64 pc 4) ⌝ }
+{
+    writes(
+        pc,
+        rd,
+        value::forty::shr(s.value, t.value % 64),
+        bound::after_srl(s.bound, t.value % 64),
+    )
+}
+
+pub(crate) fn sra(pc: u64, rd: u8, s: Operand, t: Operand) -> Outcome
+    ensures { λ r. ⌜ r ≡ writes rd (sra40 (s .value) (t .value % 64)) (afterSra (s .bound) (t .value % 64)) (plus64 pc 4) ⌝ }
+{
+    writes(
+        pc,
+        rd,
+        value::forty::sra(s.value, t.value % 64),
+        bound::after_sra(s.bound, t.value % 64),
+    )
+}
+
+fn one_if(t: bool) -> u64
+    ensures { λ r. ⌜ r ≡ bit t ⌝ }
+{
+    if t { 1 } else { 0 }
+}
+
+pub(crate) fn sets(pc: u64, rd: u8, t: bool) -> Outcome
+    ensures { λ r. ⌜ r ≡ writes rd (bit t) afterCmp (plus64 pc 4) ⌝ }
+{
+    writes(pc, rd, one_if(t), bound::after_cmp())
+}
+
+// The quotient or remainder is given; that of a divisor 0 is not looked at.
+pub(crate) fn divides(pc: u64, rd: u8, divisor: u64, value: u64, bound: u8) -> Outcome
+    ensures { λ r. ⌜ r ≡ cond (eqb divisor 0) (Refuses (refusalOf 1 pc)) (writes rd value (afterDiv bound) (plus64 pc 4)) ⌝ }
+{
+    if divisor == 0 {
         return Outcome::Refuses(Refusal::DivisorZero { pc });
     }
-    writing(
-        false,
-        rd,
-        operation::divided(op, o.a, o.b),
-        bound::after_div(o.x),
-        following(pc),
-    )
-}
-
-pub(crate) fn operate(op: Operation, pc: u64, rd: u8, o: Operands) -> Outcome
-    ensures { λ r. ⌜ r ≡ writes rd (result op (o .a) (o .b)) (resultBits op (o .x) (o .y) (o .b)) (plus64 pc 4) ⌝ }
-{
-    writing(
-        false,
-        rd,
-        operation::result(op, o.a, o.b),
-        operation::result_bits(op, o.x, o.y, o.b),
-        following(pc),
-    )
+    writes(pc, rd, value, bound::after_div(bound))
 }
 
 // z is the destination's bound.
-pub(crate) fn move_if(op: MoveKind, pc: u64, rd: u8, o: Operands, z: u8) -> Outcome
-    ensures { λ r. ⌜ r ≡ moving documentNotes op pc rd (o .a) (o .b) (o .x) z ⌝ }
+pub(crate) fn moves(pc: u64, rd: u8, happens: bool, s: Operand, z: u8) -> Outcome
+    ensures { λ r. ⌜ r ≡ cond happens (writes rd (s .value) (afterMove (s .bound) z) (plus64 pc 4)) (goesTo (plus64 pc 4) On) ⌝ }
 {
-    if operation::moves(op, o.b) {
-        return writing(false, rd, o.a, bound::after_move(o.x, z), following(pc));
+    if happens {
+        return writes(pc, rd, s.value, bound::after_move(s.bound, z));
     }
     goes_to(following(pc), Goes::On)
 }
 
-pub(crate) fn load(op: LoadKind, pc: u64, rd: u8, address: u64, m: &[u8]) -> Outcome
-    ensures { λ r. ⌜ r ≡ loading documentNotes op pc rd address (now (m .entry)) ⌝ }
+pub(crate) fn loads(op: LoadKind, pc: u64, rd: u8, l: Loaded) -> Outcome
+    ensures { λ r. ⌜ r ≡ onLoaded (λ v. writes rd (loaded op v) (afterLoad (sizeOf (loadSize op))) (plus64 pc 4)) l ⌝ }
 {
-    match memory::load(m, address, operation::load_size(op)) {
-        Loaded::Value(v) => writing(
-            false,
-            rd,
-            operation::loaded(op, v),
-            operation::load_bits(op),
-            following(pc),
-        ),
+    match l {
+        Loaded::Value(v) => writes(pc, rd, operation::loaded(op, v), operation::load_bits(op)),
         Loaded::Refused(r) => Outcome::Refuses(r),
     }
 }
 
-pub(crate) fn store(op: StoreKind, pc: u64, address: u64, value: u64, m: &[u8]) -> Outcome
-    ensures { λ r. ⌜ r ≡ storing op pc address value (now (m .entry)) ⌝ }
+pub(crate) fn stores(size: Size, pc: u64, address: u64, value: u64, len: usize) -> Outcome
+    ensures { λ r. ⌜ r ≡ onStorable (storesAt size address value (plus64 pc 4)) (storeOf size len address) ⌝ }
 {
-    let size = operation::store_size(op);
-    match memory::storable(m.len(), address, size) {
+    match memory::storable(len, address, size) {
         Stored::Done => stores_at(size, address, value, following(pc)),
         Stored::Refused(r) => Outcome::Refuses(r),
     }
 }
 
-pub(crate) fn branch(op: BranchKind, pc: u64, imm: u64, o: Operands) -> Outcome
-    ensures { λ r. ⌜ r ≡ goesTo (plus64 pc (cond (taken op (o .a) (o .b)) imm 4)) On ⌝ }
+pub(crate) fn branches(pc: u64, imm: u64, taken: bool) -> Outcome
+    ensures { λ r. ⌜ r ≡ goesTo (plus64 pc (cond taken imm 4)) On ⌝ }
 {
-    if operation::taken(op, o.a, o.b) {
+    if taken {
         return goes_to(value::address::plus(pc, imm), Goes::On);
     }
     goes_to(following(pc), Goes::On)

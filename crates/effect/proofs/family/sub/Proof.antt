@@ -8,16 +8,11 @@ sub-requires c κs = search needs
 after-sub-requires : tie.Need-after-sub-requires
 after-sub-requires c κs = search needs
 
-following-requires : tie.Need-following-requires
-following-requires c κs = search needs
-
-writing-requires : tie.Need-writing-requires
-writing-requires c κs = search needs
+writes-requires : tie.Need-writes-requires
+writes-requires c κs = search needs
 
 returns : tie.Need-returns
-returns c = rw (c .writing .ensures, c .before .following .ensures, c .before .before .after-sub .ensures, c .before .before .before .sub .ensures)
+returns c = rw (c .writes .ensures, c .before .after-sub .ensures, c .before .before .sub .ensures)
 
 pub sub-spec : {M : Type 1} → statement M
-sub-spec =
-    tie.close
-    (tie.spec sub-requires after-sub-requires following-requires writing-requires returns)
+sub-spec = tie.close (tie.spec sub-requires after-sub-requires writes-requires returns)

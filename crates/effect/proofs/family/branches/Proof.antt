@@ -1,0 +1,24 @@
+use borrow.Author.Needs.{needs}
+use Rattle.effect.proofs.family.branches.Statement.{statement}
+use Rattle.effect.proofs.family.branches.Tie as tie
+
+plus-requires : tie.Need-plus-requires
+plus-requires c κs = search needs
+
+goes-to-requires : tie.Need-goes-to-requires
+goes-to-requires c κs = search needs
+
+returns : tie.Need-returns
+returns c = rw (c .before .before .if1 .taken) (rw (c .goes-to .ensures, c .before .plus .ensures))
+
+following-requires : tie.Need-following-requires
+following-requires c κs = search needs
+
+goes-to-requires-2 : tie.Need-goes-to-requires-2
+goes-to-requires-2 c κs = search needs
+
+returns-2 : tie.Need-returns-2
+returns-2 c = rw (c .before .before .if1 .left) (rw (c .goes-to2 .ensures, c .before .following .ensures))
+
+pub branches-spec : {M : Type 1} → statement M
+branches-spec = tie.close (tie.spec plus-requires goes-to-requires returns following-requires goes-to-requires-2 returns-2)

@@ -1,0 +1,18 @@
+use borrow.Author.Needs.{needs}
+use Rattle.effect.proofs.family.mulh.Statement.{statement}
+use Rattle.effect.proofs.family.mulh.Tie as tie
+
+mulh-requires : tie.Need-mulh-requires
+mulh-requires c κs = search needs
+
+after-mul-requires : tie.Need-after-mul-requires
+after-mul-requires c κs = search needs
+
+writes-requires : tie.Need-writes-requires
+writes-requires c κs = search needs
+
+returns : tie.Need-returns
+returns c = rw (c .writes .ensures, c .before .after-mul .ensures, c .before .before .mulh .ensures)
+
+pub mulh-spec : {M : Type 1} → statement M
+mulh-spec = tie.close (tie.spec mulh-requires after-mul-requires writes-requires returns)
