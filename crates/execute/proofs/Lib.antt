@@ -2,3 +2,4 @@ pub mod Seeing
 pub mod Waiting
 pub mod Finish
 pub mod Admitting
+pub mod Forms

@@ -1,5 +1,6 @@
 // Add, Sub and Addi on limbs, as deferred.rs has them with document 01's changes. An accumulated register is kept as low + 2^30 * high.
-use instruction::Instruction;
+use instruction::Parts;
+use opcode::Opcode;
 use state::registers;
 ghost use mathlib.Core.Path.{_≡_};
 ghost use mathlib.Core.Bool.{true, _&&_};
@@ -8,6 +9,7 @@ ghost use lib.Dec.{ltb};
 ghost use Rattle.state.specs.Registers.{registers, heldAt, normalise, Becomes};
 ghost use Rattle.effect.specs.Notes.{documentNotes};
 ghost use Rattle.execute.specs.Deferred.{added, addedImm, covers, subtracted, limbed, limbs};
+ghost use Rattle.instruction.specs.Operands.{joinedOf};
 ghost use Rattle.instruction.specs.declared.Instruction.the-variants.{Sub};
 
 fn fit(low: u64, high: u64) -> bool
@@ -161,84 +163,24 @@ fn sub_if_covered(
 
 // Executes the instruction on limbs, if it has that form here, and says whether it did.
 pub(crate) fn limbs(
-    i: Instruction,
+    p: Parts,
     regs: &mut [u64; 16],
     accumulated: &mut [bool; 16],
     bounds: &mut [u8; 16],
 ) -> bool
-    ensures { λ r. ⌜ limbed r (registers (now (regs .exit)) (now (accumulated .exit)) (now (bounds .exit))) ≡ limbs documentNotes i (registers (now (regs .entry)) (now (accumulated .entry)) (now (bounds .entry))) ⌝ }
+    ensures { λ r. ⌜ limbed r (registers (now (regs .exit)) (now (accumulated .exit)) (now (bounds .exit))) ≡ limbs documentNotes (joinedOf p) (registers (now (regs .entry)) (now (accumulated .entry)) (now (bounds .entry))) ⌝ }
 {
-    match i {
-        Instruction::Add { rd, rs1, rs2 } => {
-            add(regs, accumulated, bounds, rd, rs1, rs2);
+    let op = p.op;
+    match op {
+        Opcode::Add => {
+            add(regs, accumulated, bounds, p.a, p.b, p.c);
             true
         }
-        Instruction::Sub { rd, rs1, rs2 } => sub_if_covered(
-            regs,
-            accumulated,
-            bounds,
-            rd,
-            rs1,
-            rs2,
-        ),
-        Instruction::Addi { rd, rs1, imm } => {
-            add_immediate(regs, accumulated, bounds, rd, rs1, imm);
+        Opcode::Sub => sub_if_covered(regs, accumulated, bounds, p.a, p.b, p.c),
+        Opcode::Addi => {
+            add_immediate(regs, accumulated, bounds, p.a, p.b, p.imm);
             true
         }
-        Instruction::Mul {
-            rd: _,
-            rs1: _,
-            rs2: _,
-        } => false,
-        Instruction::Divide {
-            op: _,
-            rd: _,
-            rs1: _,
-            rs2: _,
-        } => false,
-        Instruction::Op {
-            op: _,
-            rd: _,
-            rs1: _,
-            rs2: _,
-        } => false,
-        Instruction::OpImm {
-            op: _,
-            rd: _,
-            rs1: _,
-            imm: _,
-        } => false,
-        Instruction::Move {
-            op: _,
-            rd: _,
-            rs1: _,
-            rs2: _,
-        } => false,
-        Instruction::Load {
-            op: _,
-            rd: _,
-            rs1: _,
-            imm: _,
-        } => false,
-        Instruction::Store {
-            op: _,
-            rs1: _,
-            rs2: _,
-            imm: _,
-        } => false,
-        Instruction::Branch {
-            op: _,
-            rs1: _,
-            rs2: _,
-            imm: _,
-        } => false,
-        Instruction::Jal { rd: _, imm: _ } => false,
-        Instruction::Jalr {
-            rd: _,
-            rs1: _,
-            imm: _,
-        } => false,
-        Instruction::Ecall => false,
-        Instruction::Ebreak => false,
+        _ => false,
     }
 }

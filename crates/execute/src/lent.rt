@@ -1,5 +1,5 @@
-// One instruction over lent registers and memory, without any test of them: what a run executes. What it does is decided before
-// anything changes.
+// One instruction, taken apart, over lent registers and memory, without any test of them: what a run executes. What it does is
+// decided before anything changes.
 use crate::Advance;
 use crate::Check;
 use crate::Mode;
@@ -9,15 +9,21 @@ use effect::Effect;
 use effect::Goes;
 use effect::Outcome;
 use effect::Stores;
-use instruction::Instruction;
+use instruction::Parts;
+use opcode::Form;
+use opcode::Opcode;
 use refusal::Refusal;
 use state::registers;
 ghost use mathlib.Core.Path.{_≡_};
-ghost use mathlib.Core.Bool.{_&&_};
+ghost use mathlib.Core.Bool.{cond, _&&_};
+ghost use lib.Dec.{eqb};
 ghost use Rattle.state.specs.Registers.{registers, Becomes};
 ghost use Rattle.effect.specs.Notes.{documentNotes};
 ghost use Rattle.effect.specs.Operations.{plus64};
 ghost use Rattle.execute.specs.World.{world, advanced, wentOf, marked, keeping, checkOf, does};
+ghost use Rattle.opcode.specs.Opcodes.{opcodeNumber};
+ghost use Rattle.instruction.specs.Operands.{joinedOf};
+ghost use Rattle.instruction.specs.declared.Instruction.the-variants.{Ecall};
 ghost use Rattle.execute.specs.Settle.{settle};
 ghost use Rattle.execute.specs.Execute.{wholly, execute};
 ghost use Rattle.execute.specs.Deferred.{limbed, limbsIn};
@@ -91,84 +97,37 @@ fn apply(
     }
 }
 
-fn settle_sources(i: Instruction, regs: &mut [u64; 16], accumulated: &mut [bool; 16])
-    ensures { λ _. ⌜ Becomes (settle Deferred i) (now (regs .entry)) (now (accumulated .entry)) (now (regs .exit)) (now (accumulated .exit)) ⌝ }
+// Ecall has the number 49.
+fn settle_alone(op: Opcode, regs: &mut [u64; 16], accumulated: &mut [bool; 16])
+    ensures { λ _. ⌜ Becomes (λ R. cond (eqb (opcodeNumber op) 49) (settle Deferred Ecall R) R) (now (regs .entry)) (now (accumulated .entry)) (now (regs .exit)) (now (accumulated .exit)) ⌝ }
 {
-    match i {
-        Instruction::Add { rd: _, rs1, rs2 } => deferred::normalise_two(
-            regs,
-            accumulated,
-            rs1,
-            rs2,
-        ),
-        Instruction::Sub { rd: _, rs1, rs2 } => deferred::normalise_two(
-            regs,
-            accumulated,
-            rs1,
-            rs2,
-        ),
-        Instruction::Addi { rd: _, rs1, imm: _ } => registers::normalise(regs, accumulated, rs1),
-        Instruction::Mul { rd: _, rs1, rs2 } => deferred::normalise_two(
-            regs,
-            accumulated,
-            rs1,
-            rs2,
-        ),
-        Instruction::Divide {
-            op: _,
-            rd: _,
-            rs1,
-            rs2,
-        } => deferred::normalise_two(regs, accumulated, rs1, rs2),
-        Instruction::Op {
-            op: _,
-            rd: _,
-            rs1,
-            rs2,
-        } => deferred::normalise_two(regs, accumulated, rs1, rs2),
-        Instruction::OpImm {
-            op: _,
-            rd: _,
-            rs1,
-            imm: _,
-        } => registers::normalise(regs, accumulated, rs1),
-        Instruction::Move {
-            op: _,
-            rd: _,
-            rs1,
-            rs2,
-        } => deferred::normalise_two(regs, accumulated, rs1, rs2),
-        Instruction::Load {
-            op: _,
-            rd: _,
-            rs1,
-            imm: _,
-        } => registers::normalise(regs, accumulated, rs1),
-        Instruction::Store {
-            op: _,
-            rs1,
-            rs2,
-            imm: _,
-        } => deferred::normalise_two(regs, accumulated, rs1, rs2),
-        Instruction::Branch {
-            op: _,
-            rs1,
-            rs2,
-            imm: _,
-        } => deferred::normalise_two(regs, accumulated, rs1, rs2),
-        Instruction::Jal { rd: _, imm: _ } => (),
-        Instruction::Jalr { rd: _, rs1, imm: _ } => registers::normalise(regs, accumulated, rs1),
-        Instruction::Ecall => registers::normalise_all(regs, accumulated),
-        Instruction::Ebreak => (),
+    if opcode::number(op) == 49 {
+        registers::normalise_all(regs, accumulated);
     }
 }
 
-fn settle(mode: Mode, i: Instruction, regs: &mut [u64; 16], accumulated: &mut [bool; 16])
-    ensures { λ _. ⌜ Becomes (settle mode i) (now (regs .entry)) (now (accumulated .entry)) (now (regs .exit)) (now (accumulated .exit)) ⌝ }
+// The sources stand where the form has them.
+fn settle_sources(p: Parts, regs: &mut [u64; 16], accumulated: &mut [bool; 16])
+    ensures { λ _. ⌜ Becomes (settle Deferred (joinedOf p)) (now (regs .entry)) (now (accumulated .entry)) (now (regs .exit)) (now (accumulated .exit)) ⌝ }
+{
+    let op = p.op;
+    match opcode::form_of(op) {
+        Form::R => deferred::normalise_two(regs, accumulated, p.b, p.c),
+        Form::I => registers::normalise(regs, accumulated, p.b),
+        Form::Shift => registers::normalise(regs, accumulated, p.b),
+        Form::S => deferred::normalise_two(regs, accumulated, p.a, p.b),
+        Form::B => deferred::normalise_two(regs, accumulated, p.a, p.b),
+        Form::J => (),
+        Form::Alone => settle_alone(op, regs, accumulated),
+    }
+}
+
+fn settle(mode: Mode, p: Parts, regs: &mut [u64; 16], accumulated: &mut [bool; 16])
+    ensures { λ _. ⌜ Becomes (settle mode (joinedOf p)) (now (regs .entry)) (now (accumulated .entry)) (now (regs .exit)) (now (accumulated .exit)) ⌝ }
 {
     match mode {
         Mode::Plain => (),
-        Mode::Deferred => settle_sources(i, regs, accumulated),
+        Mode::Deferred => settle_sources(p, regs, accumulated),
     }
 }
 
@@ -197,7 +156,7 @@ fn refuse(r: Refusal, pc: u64, halted: bool) -> Advance
 fn wholly(
     mode: Mode,
     full: bool,
-    i: Instruction,
+    p: Parts,
     pc: u64,
     halted: bool,
     regs: &mut [u64; 16],
@@ -205,15 +164,15 @@ fn wholly(
     bounds: &mut [u8; 16],
     m: &mut [u8],
 ) -> Advance
-    ensures { λ r. ⌜ advanced r (registers (now (regs .exit)) (now (accumulated .exit)) (now (bounds .exit))) (now (m .exit)) ≡ wholly full documentNotes i (world pc halted (registers (now (regs .entry)) (now (accumulated .entry)) (now (bounds .entry))) (now (m .entry))) (settle mode i (registers (now (regs .entry)) (now (accumulated .entry)) (now (bounds .entry)))) ⌝ }
+    ensures { λ r. ⌜ advanced r (registers (now (regs .exit)) (now (accumulated .exit)) (now (bounds .exit))) (now (m .exit)) ≡ wholly full documentNotes (joinedOf p) (world pc halted (registers (now (regs .entry)) (now (accumulated .entry)) (now (bounds .entry))) (now (m .entry))) (settle mode (joinedOf p) (registers (now (regs .entry)) (now (accumulated .entry)) (now (bounds .entry)))) ⌝ }
 {
-    let outcome = effect::effect_of(i, pc, regs, accumulated, bounds, m);
+    let outcome = effect::effect_of_parts(p, pc, regs, accumulated, bounds, m);
     match outcome {
         Outcome::Does(e) => {
             if both(full, e.checked) {
                 return refuse(Refusal::ListFull { pc }, pc, halted);
             }
-            settle(mode, i, regs, accumulated);
+            settle(mode, p, regs, accumulated);
             apply(e, halted, regs, accumulated, bounds, m)
         }
         Outcome::Refuses(r) => refuse(r, pc, halted),
@@ -222,16 +181,16 @@ fn wholly(
 
 fn limbs_in(
     mode: Mode,
-    i: Instruction,
+    p: Parts,
     regs: &mut [u64; 16],
     accumulated: &mut [bool; 16],
     bounds: &mut [u8; 16],
 ) -> bool
-    ensures { λ r. ⌜ limbed r (registers (now (regs .exit)) (now (accumulated .exit)) (now (bounds .exit))) ≡ limbsIn mode documentNotes i (registers (now (regs .entry)) (now (accumulated .entry)) (now (bounds .entry))) ⌝ }
+    ensures { λ r. ⌜ limbed r (registers (now (regs .exit)) (now (accumulated .exit)) (now (bounds .exit))) ≡ limbsIn mode documentNotes (joinedOf p) (registers (now (regs .entry)) (now (accumulated .entry)) (now (bounds .entry))) ⌝ }
 {
     match mode {
         Mode::Plain => false,
-        Mode::Deferred => deferred::limbs(i, regs, accumulated, bounds),
+        Mode::Deferred => deferred::limbs(p, regs, accumulated, bounds),
     }
 }
 
@@ -250,7 +209,7 @@ fn onward(pc: u64, halted: bool) -> Advance
 pub fn execute(
     mode: Mode,
     full: bool,
-    i: Instruction,
+    p: Parts,
     pc: u64,
     halted: bool,
     regs: &mut [u64; 16],
@@ -258,10 +217,10 @@ pub fn execute(
     bounds: &mut [u8; 16],
     m: &mut [u8],
 ) -> Advance
-    ensures { λ r. ⌜ advanced r (registers (now (regs .exit)) (now (accumulated .exit)) (now (bounds .exit))) (now (m .exit)) ≡ execute mode full documentNotes i (world pc halted (registers (now (regs .entry)) (now (accumulated .entry)) (now (bounds .entry))) (now (m .entry))) ⌝ }
+    ensures { λ r. ⌜ advanced r (registers (now (regs .exit)) (now (accumulated .exit)) (now (bounds .exit))) (now (m .exit)) ≡ execute mode full documentNotes (joinedOf p) (world pc halted (registers (now (regs .entry)) (now (accumulated .entry)) (now (bounds .entry))) (now (m .entry))) ⌝ }
 {
-    if limbs_in(mode, i, regs, accumulated, bounds) {
+    if limbs_in(mode, p, regs, accumulated, bounds) {
         return onward(pc, halted);
     }
-    wholly(mode, full, i, pc, halted, regs, accumulated, bounds, m)
+    wholly(mode, full, p, pc, halted, regs, accumulated, bounds, m)
 }

@@ -86,7 +86,7 @@ pub fn execute(mode: Mode, i: Instruction, s: State, m: &mut [u8]) -> Executed
     let a = lent::execute(
         mode,
         false,
-        i,
+        instruction::parts_of(i),
         s.pc,
         s.halted,
         &mut regs,

@@ -4,7 +4,7 @@ use execute::Check;
 use execute::Mode;
 use execute::Went;
 use execute::lent;
-use instruction::Decoded;
+use instruction::Taken;
 use memory::Fetched;
 use refusal::Refusal;
 use refusal::Stop;
@@ -20,6 +20,7 @@ ghost use Rattle.execute.specs.declared.Mode.the-variants.{Plain, Deferred};
 ghost use Rattle.execute.specs.declared.Went.the-variants as W;
 ghost use Rattle.execute.specs.declared.Check.the-variants.{Unneeded};
 ghost use Rattle.state.specs.Formed.{registersOf};
+ghost use Rattle.instruction.specs.Words.{decodedOf};
 ghost use Rattle.run.specs.Pending.{lists};
 ghost use Rattle.run.specs.Step.{documentRules, obey, stepIn, step, stepped};
 ghost use Rattle.run.specs.Run.{goesOn, stopOf, counted, loop, run, ran};
@@ -53,7 +54,7 @@ fn refuse(r: Refusal, pc: u64, halted: bool) -> Advance
 fn obey(
     mode: Mode,
     full: bool,
-    d: Decoded,
+    t: Taken,
     pc: u64,
     halted: bool,
     regs: &mut [u64; 16],
@@ -61,21 +62,11 @@ fn obey(
     bounds: &mut [u8; 16],
     m: &mut [u8],
 ) -> Advance
-    ensures { λ r. ⌜ advanced r (registers (now (regs .exit)) (now (accumulated .exit)) (now (bounds .exit))) (now (m .exit)) ≡ obey mode full documentRules d (world pc halted (registers (now (regs .entry)) (now (accumulated .entry)) (now (bounds .entry))) (now (m .entry))) ⌝ }
+    ensures { λ r. ⌜ advanced r (registers (now (regs .exit)) (now (accumulated .exit)) (now (bounds .exit))) (now (m .exit)) ≡ obey mode full documentRules (decodedOf t) (world pc halted (registers (now (regs .entry)) (now (accumulated .entry)) (now (bounds .entry))) (now (m .entry))) ⌝ }
 {
-    match d {
-        Decoded::Instruction(i) => lent::execute(
-            mode,
-            full,
-            i,
-            pc,
-            halted,
-            regs,
-            accumulated,
-            bounds,
-            m,
-        ),
-        Decoded::Refused(r) => refuse(r, pc, halted),
+    match t {
+        Taken::Apart(p) => lent::execute(mode, full, p, pc, halted, regs, accumulated, bounds, m),
+        Taken::Refused(r) => refuse(r, pc, halted),
     }
 }
 
@@ -96,7 +87,7 @@ fn step_in(
         Fetched::Word(word) => obey(
             mode,
             full,
-            instruction::decode(word),
+            instruction::take(word),
             pc,
             halted,
             regs,

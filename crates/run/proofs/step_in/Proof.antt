@@ -10,8 +10,8 @@ fetch-requires c κs = search needs
 enum-known-word : tie.Need-enum-known-word
 enum-known-word c = search needs
 
-decode-requires : tie.Need-decode-requires
-decode-requires c κs = search needs
+take-requires : tie.Need-take-requires
+take-requires c κs = search needs
 
 obey-requires : tie.Need-obey-requires
 obey-requires c κs = search needs
@@ -27,7 +27,7 @@ same-length c = search needs
 
 returns : tie.Need-returns
 unfolding fetched
-returns c = rw (sym (c .before .before .before .before .before .before .before .before .before .before .before .fetch .ensures) ∙ c .before .before .before .before .before .before .before .before .before .word .given .1, ← c .before .before .before .before .before .before .before .decode .ensures) (c .before .before .obey .ensures)
+returns c = rw (sym (c .before .before .before .before .before .before .before .before .before .before .before .fetch .ensures) ∙ c .before .before .before .before .before .before .before .before .before .word .given .1, ← c .before .before .before .before .before .before .before .take .ensures) (c .before .before .obey .ensures)
 
 same-length-2 : tie.Need-same-length-2
 same-length-2 c = search needs
@@ -42,7 +42,7 @@ step-in-spec =
     (tie.spec
     fetch-requires
     enum-known-word
-    decode-requires
+    take-requires
     obey-requires
     enum-known-r
     refuse-requires

@@ -4,8 +4,8 @@ use borrow.Author.Needs.{needs}
 use Rattle.execute.proofs.lent.wholly.Statement.{statement}
 use Rattle.execute.proofs.lent.wholly.Tie as tie
 
-effect-of-requires : tie.Need-effect-of-requires
-effect-of-requires c κs = search needs
+effect-of-parts-requires : tie.Need-effect-of-parts-requires
+effect-of-parts-requires c κs = search needs
 
 enum-known-outcome : tie.Need-enum-known-outcome
 enum-known-outcome c = search needs
@@ -20,7 +20,7 @@ same-length : tie.Need-same-length
 same-length c = search needs
 
 returns : tie.Need-returns
-returns c = rw (c .refuse .ensures) (wholly-full (c .before .before .before .before .before .before .before .before .before .before .before .before .args .mode) _ _ _ _ _ (sym (c .before .before .before .before .before .before .effect-of .ensures) ∙ c .before .before .before .before .outcome .given .1) (sym (c .before .before .both .ensures) ∙ c .before .if1 .taken))
+returns c = rw (c .refuse .ensures) (wholly-full (c .before .before .before .before .before .before .before .before .before .before .before .before .args .mode) _ _ _ _ _ (sym (c .before .before .before .before .before .before .effect-of-parts .ensures) ∙ c .before .before .before .before .outcome .given .1) (sym (c .before .before .both .ensures) ∙ c .before .if1 .taken))
 
 settle-requires : tie.Need-settle-requires
 settle-requires c κs = search needs
@@ -38,19 +38,19 @@ same-length-2 : tie.Need-same-length-2
 same-length-2 c = search needs
 
 returns-2 : tie.Need-returns-2
-returns-2 c = c .before .before .apply .ensures ∙ wholly-does (c .before .before .before .before .before .before .before .before .before .before .before .before .before .before .before .before .before .before .before .before .before .args .mode) _ _ _ _ _ _ (sym (c .before .before .before .before .before .before .before .before .before .before .before .before .before .before .before .effect-of .ensures) ∙ c .before .before .before .before .before .before .before .before .before .before .before .before .before .outcome .given .1) (sym (c .before .before .before .before .before .before .before .before .before .before .before .both .ensures) ∙ c .before .before .before .before .before .before .before .before .before .before .if1 .left) (c .before .before .before .before .before .before .before .settle .ensures _)
+returns-2 c = c .before .before .apply .ensures ∙ wholly-does (c .before .before .before .before .before .before .before .before .before .before .before .before .before .before .before .before .before .before .before .before .before .args .mode) _ _ _ _ _ _ (sym (c .before .before .before .before .before .before .before .before .before .before .before .before .before .before .before .effect-of-parts .ensures) ∙ c .before .before .before .before .before .before .before .before .before .before .before .before .before .outcome .given .1) (sym (c .before .before .before .before .before .before .before .before .before .before .before .both .ensures) ∙ c .before .before .before .before .before .before .before .before .before .before .if1 .left) (c .before .before .before .before .before .before .before .settle .ensures _)
 
 same-length-3 : tie.Need-same-length-3
 same-length-3 c = search needs
 
 returns-3 : tie.Need-returns-3
-returns-3 c = rw (c .refuse2 .ensures) (wholly-refuses (c .before .before .before .before .before .before .before .before .before .before .args .mode) _ _ _ _ _ (sym (c .before .before .before .before .effect-of .ensures) ∙ c .before .before .outcome2 .given .1))
+returns-3 c = rw (c .refuse2 .ensures) (wholly-refuses (c .before .before .before .before .before .before .before .before .before .before .args .mode) _ _ _ _ _ (sym (c .before .before .before .before .effect-of-parts .ensures) ∙ c .before .before .outcome2 .given .1))
 
 pub wholly-spec : {M : Type 1} → statement M
 wholly-spec =
     tie.close
     (tie.spec
-    effect-of-requires
+    effect-of-parts-requires
     enum-known-outcome
     both-requires
     refuse-requires
