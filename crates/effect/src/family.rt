@@ -3,7 +3,7 @@ use crate::Effect;
 use crate::Goes;
 use crate::Outcome;
 use crate::Stores;
-use crate::operation;
+use crate::load;
 use instruction::LoadKind;
 use memory::Loaded;
 use memory::Size;
@@ -253,7 +253,7 @@ pub(crate) fn loads(op: LoadKind, pc: u64, rd: u8, l: Loaded) -> Outcome
     ensures { λ r. ⌜ r ≡ onLoaded (λ v. writes rd (loaded op v) (afterLoad (sizeOf (loadSize op))) (plus64 pc 4)) l ⌝ }
 {
     match l {
-        Loaded::Value(v) => writes(pc, rd, operation::loaded(op, v), operation::load_bits(op)),
+        Loaded::Value(v) => writes(pc, rd, load::loaded(op, v), load::load_bits(op)),
         Loaded::Refused(r) => Outcome::Refuses(r),
     }
 }

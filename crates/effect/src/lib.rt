@@ -18,7 +18,7 @@ ghost use Rattle.effect.specs.Notes.{documentNotes};
 ghost use Rattle.effect.specs.Effects.{seen, effect};
 
 mod family; // family.rt: the effect of each kind of instruction
-mod operation; // operation.rt: what a load computes and notes
+mod load; // load.rt: what a load computes and notes
 
 pub enum Goes {
     On,

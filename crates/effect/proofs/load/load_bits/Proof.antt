@@ -1,6 +1,6 @@
 use borrow.Author.Needs.{needs}
-use Rattle.effect.proofs.operation.load_bits.Statement.{statement}
-use Rattle.effect.proofs.operation.load_bits.Tie as tie
+use Rattle.effect.proofs.load.load_bits.Statement.{statement}
+use Rattle.effect.proofs.load.load_bits.Tie as tie
 
 load-size-requires : tie.Need-load-size-requires
 load-size-requires c κs = search needs

@@ -1,28 +1,16 @@
-use Rattle.effect.specs.Operations.{loaded}
+use Rattle.effect.specs.Operations.{loadSize}
 use borrow.Author.Needs.{needs}
-use Rattle.effect.proofs.operation.loaded.Statement.{statement}
-use Rattle.effect.proofs.operation.loaded.Tie as tie
+use Rattle.effect.proofs.load.load_size.Statement.{statement}
+use Rattle.effect.proofs.load.load_size.Tie as tie
 
 enum-told : tie.Need-enum-told
 enum-told c = search needs
-
-cast-extend-8 : tie.Need-cast-extend-8
-cast-extend-8 c = search needs
-
-extend-8-requires : tie.Need-extend-8-requires
-extend-8-requires c κs = search needs
 
 enum-told-2 : tie.Need-enum-told-2
 enum-told-2 c = search needs
 
 enum-told-3 : tie.Need-enum-told-3
 enum-told-3 c = search needs
-
-cast-extend-16 : tie.Need-cast-extend-16
-cast-extend-16 c = search needs
-
-extend-16-requires : tie.Need-extend-16-requires
-extend-16-requires c κs = search needs
 
 enum-told-4 : tie.Need-enum-told-4
 enum-told-4 c = search needs
@@ -34,40 +22,36 @@ enum-told-6 : tie.Need-enum-told-6
 enum-told-6 c = search needs
 
 returns : tie.Need-returns
-unfolding loaded
-returns c = rw (c .before .enum-told .given .1) (rw (c .extend-8 .ensures))
+unfolding loadSize
+returns c = rw (c .enum-told .given .1)
 
 returns-2 : tie.Need-returns-2
-unfolding loaded
+unfolding loadSize
 returns-2 c = rw (c .enum-told2 .given .1)
 
 returns-3 : tie.Need-returns-3
-unfolding loaded
-returns-3 c = rw (c .before .enum-told3 .given .1) (rw (c .extend-16 .ensures))
+unfolding loadSize
+returns-3 c = rw (c .enum-told3 .given .1)
 
 returns-4 : tie.Need-returns-4
-unfolding loaded
+unfolding loadSize
 returns-4 c = rw (c .enum-told4 .given .1)
 
 returns-5 : tie.Need-returns-5
-unfolding loaded
+unfolding loadSize
 returns-5 c = rw (c .enum-told5 .given .1)
 
 returns-6 : tie.Need-returns-6
-unfolding loaded
+unfolding loadSize
 returns-6 c = rw (c .enum-told6 .given .1)
 
-pub loaded-spec : {M : Type 1} → statement M
-loaded-spec =
+pub load-size-spec : {M : Type 1} → statement M
+load-size-spec =
     tie.close
     (tie.spec
     enum-told
-    cast-extend-8
-    extend-8-requires
     enum-told-2
     enum-told-3
-    cast-extend-16
-    extend-16-requires
     enum-told-4
     enum-told-5
     enum-told-6
