@@ -1,0 +1,61 @@
+-- Where one more check is listed, from the tests that `place_for` makes.
+use Prim.Native.Nat.{ℕ, _+_, _<_, _≤_}
+use mathlib.Core.Path.{_≡_, refl, sym, _∙_}
+use mathlib.Core.Bool.{Bool, true, false, not, _&&_}
+use lib.Dec.{eqb}
+use mathlib.Core.List.{List}
+use lib.ListN.{length, set, length-map}
+use lib.Seq.{set-out}
+use native.Mathlib.Omega.{arith}
+use borrow.Author.Tests.{le-leb, lt-leb, eq-eqb, ne-eqb}
+use Rattle.refusal.specs.Stops.{refusalOf}
+use Rattle.run.specs.Pending.{listsFit, full, fullAt, appended}
+use Rattle.run.specs.declared.pending.Appended.the-variants as A
+use Rattle.run.proofs.Lists.{append-malformed, append-full, append-done}
+use Rattle.checks.specs.Records.{listed, withOne, Fits}
+use Rattle.checks.specs.declared.Pending.{Pending}
+use Rattle.checks.proofs.Listed.{fits-is, listed-more, listed-same}
+
+room-is : (n : ℕ) (l : List Pending) → full (listed n l) ≡ fullAt (length l) n
+room-is n l = rw (length-map l (λ (p : Pending). p .value))
+
+with-room : (n : ℕ) (l : List Pending) → n < length l → full (listed n l) ≡ false
+with-room n l h = room-is n l ∙ rw (lt-leb (length l) n h) (neither (eqb (length l) 0))
+  where
+    neither : (t : Bool) → (not t && false) ≡ false
+    neither true = refl
+    neither false = refl
+
+module _ (room n : ℕ) (p : Pending) (l : List Pending) (e : length l ≡ room) where
+  fits : n ≤ room → listsFit (listed n l) ≡ true
+  fits h = fits-is n l ∙ le-leb n (length l) (omega arith)
+
+  -- nothing is written beyond the list
+  stays : withOne p n l ≡ listed n l → listed ((withOne p n l) .count) (set l room p) ≡ withOne p n l
+  stays f = rw (f, set-out l room p (omega arith))
+
+  adds : withOne p n l ≡ listed (n + 1) (set l n p) → listed ((withOne p n l) .count) (set l n p) ≡ withOne p n l
+  adds f = rw f
+
+module _ (room n : ℕ) (p : Pending) where
+  pub place-malformed : room < n → Fits room n p (record { answer = A.Refused (refusalOf 9 0); place = room })
+  place-malformed h l e =
+      let m = append-malformed (p .value) (p .bound) (p .pc) (listed n l) (fits-is n l ∙ lt-leb n (length l) (omega arith)) in
+      (m .0, stays room n p l e (m .1))
+
+  pub place-more : n < room → Fits room n p (record { answer = A.At (n + 1); place = n })
+  place-more h l e =
+      let more = listed-more n l p (omega arith) in
+      let m = append-done (p .value) (p .bound) (p .pc) (listed n l) (fits room n p l e (omega arith)) (with-room n l (omega arith)) in
+      (rw (← m .0, ← more), adds room n p l e (m .1 ∙ sym more))
+
+  pub place-none : room ≡ 0 → n ≤ room → Fits room n p (record { answer = A.At n; place = room })
+  place-none z h l e =
+      let same = listed-same n l p (omega arith) in
+      let m = append-done (p .value) (p .bound) (p .pc) (listed n l) (fits room n p l e h) (room-is n l ∙ rw (eq-eqb (length l) 0 (omega arith))) in
+      (rw (← m .0, ← same), stays room n p l e (m .1 ∙ sym same))
+
+  pub place-full : (room ≡ 0 → ⊥) → n ≤ room → room ≤ n → Fits room n p (record { answer = A.Refused (refusalOf 8 (p .pc)); place = room })
+  place-full z h g l e =
+      let m = append-full (p .value) (p .bound) (p .pc) (listed n l) (fits room n p l e h) (room-is n l ∙ rw (ne-eqb (length l) 0 (λ y. z (sym e ∙ y)), le-leb (length l) n (omega arith))) in
+      (m .0, stays room n p l e (m .1))

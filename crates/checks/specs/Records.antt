@@ -1,0 +1,23 @@
+-- Pending checks as one lent list of records: what the three lists hold of them. Every promise of this crate is one of `run`'s, through `listed`.
+use Prim.Native.Nat.{ℕ}
+use mathlib.Core.Path.{_≡_}
+use mathlib.Core.List.{List, map}
+use lib.ListN.{length, set}
+use Rattle.run.specs.Pending.{Lists, lists, appendAnswer, appendLists}
+use Rattle.run.specs.declared.pending.Appended.{Appended}
+use Rattle.checks.specs.declared.Pending.{Pending}
+use Rattle.checks.specs.declared.Placed.{Placed}
+
+-- "one lent list of records": the values, bounds and pcs of the records, each a list by itself
+abbrev pub listed : ℕ → List Pending → Lists
+listed n l = lists n (map (λ (p : Pending). p .value) l) (map (λ (p : Pending). p .bound) l) (map (λ (p : Pending). p .pc) l)
+
+abbrev pub answerTo : Pending → ℕ → List Pending → Appended
+answerTo p n l = appendAnswer (p .value) (p .bound) (p .pc) (listed n l)
+
+abbrev pub withOne : Pending → ℕ → List Pending → Lists
+withOne p n l = appendLists (p .value) (p .bound) (p .pc) (listed n l)
+
+-- the answer and the place that `place_for` gives: they hold of every list of this room
+abbrev pub Fits : ℕ → ℕ → Pending → Placed → Type 0
+Fits room n p r = (l : List Pending) → length l ≡ room → (r .answer ≡ answerTo p n l) × (listed ((withOne p n l) .count) (set l (r .place) p) ≡ withOne p n l)

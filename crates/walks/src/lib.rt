@@ -1,0 +1,1 @@
+// No code: what the proofs of walked functions share stands in proofs/.
