@@ -1,3 +1,4 @@
 pub mod Pending
 pub mod Step
 pub mod Run
+pub mod Leg

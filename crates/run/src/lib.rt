@@ -25,6 +25,7 @@ ghost use Rattle.run.specs.Pending.{lists};
 ghost use Rattle.run.specs.Step.{documentRules, obey, stepIn, step, stepped};
 ghost use Rattle.run.specs.Run.{goesOn, stopOf, counted, loop, run, ran};
 
+pub mod leg; // leg.rt: a leg of a run, whose check is not listed
 pub mod pending; // pending.rt: pending checks, in three lent lists
 
 pub struct OneStep {

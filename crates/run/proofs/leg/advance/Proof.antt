@@ -1,0 +1,78 @@
+use borrow.Author.Needs.{needs}
+use borrow.Author.Tests.{not-true, not-false}
+use native.Mathlib.Omega.{arith}
+use mathlib.Core.Path.{_≡_, refl, sym, _∙_}
+use Prim.Native.Nat.{_≤_, _-_}
+use lib.ListN.{length}
+use Rattle.state.specs.Registers.{registers}
+use Rattle.execute.specs.World.{world}
+use Rattle.run.specs.Step.{documentRules}
+use Rattle.run.specs.Leg.{later, legIn}
+use Rattle.run.proofs.Legs.{passes-on, ends, runs-dry, begins}
+use Rattle.run.proofs.leg.advance.Statement.{statement}
+use Rattle.run.proofs.leg.advance.Tie as tie
+
+abbrev Inv-loop : tie.InvT-loop
+Inv-loop mode full fuel m₀ regs₀ accumulated₀ bounds₀ pc₀ halted₀ n₀ m regs accumulated bounds pc halted n =
+    (length m ≡ length m₀) × (n ≤ fuel)
+    × (later n (legIn (fuel - n) mode full documentRules (world pc halted (registers regs accumulated bounds) m))
+    ≡ legIn fuel mode full documentRules (world pc₀ halted₀ (registers regs₀ accumulated₀ bounds₀) m₀))
+
+abbrev μ-loop : tie.MeasureT-loop
+μ-loop mode full fuel m₀ regs₀ accumulated₀ bounds₀ pc₀ halted₀ n₀ m regs accumulated bounds pc halted n =
+    fuel - n
+
+loop-holds : tie.Need-loop-holds Inv-loop μ-loop
+loop-holds c = (refl, omega arith, begins _ _ _ _ _)
+
+step-in-requires : tie.Need-step-in-requires Inv-loop μ-loop
+step-in-requires c κs = search needs
+
+passes-requires : tie.Need-passes-requires Inv-loop μ-loop
+passes-requires c κs = search needs
+
+counted-requires : tie.Need-counted-requires Inv-loop μ-loop
+counted-requires c κs = search needs
+
+add-steps : tie.Need-add-steps Inv-loop μ-loop
+add-steps c = omega (arith, c .before .before .before .before .before .before .before .before .before .before .loop-test .taken, c .counted .ensures .1, c .before .before .before .before .before .before .before .before .before .before .before .before .before .before .before .before .fits .fuel)
+
+same-length : tie.Need-same-length Inv-loop μ-loop
+same-length c = omega arith
+
+returns : tie.Need-returns Inv-loop μ-loop
+returns c = rw (c .counted .ensures .0) (sym (sym (c .before .before .before .before .before .before .before .before .before .before .before .loop .inv .2) ∙ ends _ _ _ (c .before .before .before .before .before .before .before .before .before .before .before .before .before .before .before .before .args .fuel) (c .before .before .before .before .before .before .before .before .before .before .before .loop .n) _ _ _ _ (omega arith) (c .before .before .before .before .before .step-in .ensures) (sym (c .before .before .passes .ensures) ∙ not-true _ (c .before .if1 .taken))))
+
+add-n : tie.Need-add-n Inv-loop μ-loop
+add-n c = omega (arith, c .before .before .before .before .before .before .before .before .before .loop-test .taken, c .before .before .before .before .before .before .before .before .before .before .before .before .before .before .before .fits .fuel)
+
+loop-less : tie.Need-loop-less Inv-loop μ-loop
+loop-less c = omega arith
+
+loop-again : tie.Need-loop-again Inv-loop μ-loop
+loop-again c = (omega arith, omega arith, sym (passes-on _ _ _ (c .before .before .before .before .before .before .before .before .before .before .before .before .before .before .before .args .fuel) (c .before .before .before .before .before .before .before .before .before .before .loop .n) _ _ _ _ (omega arith) (c .before .before .before .before .step-in .ensures) (sym (c .before .passes .ensures) ∙ not-false _ (c .if1 .left))) ∙ c .before .before .before .before .before .before .before .before .before .before .loop .inv .2)
+
+same-length-2 : tie.Need-same-length-2 Inv-loop μ-loop
+same-length-2 c = omega arith
+
+returns-2 : tie.Need-returns-2 Inv-loop μ-loop
+returns-2 c = sym (sym (c .before .loop .inv .2) ∙ runs-dry _ _ _ (c .before .before .before .before .before .before .args .fuel) _ (c .before .loop .n) (omega arith))
+
+pub advance-spec : {M : Type 1} → statement M
+advance-spec =
+    tie.close
+    (tie.spec
+    Inv-loop
+    μ-loop
+    loop-holds
+    step-in-requires
+    passes-requires
+    counted-requires
+    add-steps
+    same-length
+    returns
+    add-n
+    loop-less
+    loop-again
+    same-length-2
+    returns-2)
