@@ -1,3 +1,4 @@
 pub mod Listed
 pub mod Places
+pub mod Turning
 pub mod Noting

@@ -1,6 +1,6 @@
 -- The records and the three lists hold the same.
 --     listed-injective      what the three lists hold determines the records
---     fits-is, full-is      the lists' tests, of the room
+--     fits-is, room-is      the lists' tests, of the room
 --     listed-more           a record put at the count is one check more; there is none where there is no room
 --     no-entry, entry-is    what is read back, from the test that `read` makes
 use Prim.Native.Nat.{ℕ, zero, suc, _+_, _<_, _≤_}
@@ -12,15 +12,18 @@ use lib.ListN.{length, set, getD, drop, length-map, List·getD-map}
 use native.Mathlib.Omega.{arith}
 use lib.Seq.{set-out}
 use borrow.Author.Tests.{lt-ltb, le-ltb, eq-eqb, le-leb, lt-leb, ltb-true, ltb-false, leb-true, leb-false}
-use Rattle.run.specs.Pending.{Lists, lists, listsFit, appended, entryAt}
+use Rattle.run.specs.Pending.{Lists, lists, listsFit, full, fullAt, appended, entryAt}
 use Rattle.run.specs.declared.pending.Entry.the-variants as E
 use Rattle.run.proofs.Lists.{entry-malformed, entry-beyond, entry-there}
 use Rattle.checks.specs.Records.{listed}
 use Rattle.checks.specs.declared.Pending.{Pending}
 
+abbrev pub made : ℕ → ℕ → ℕ → Pending
+made v b pc = record { value = v; bound = b; pc = pc }
+
 -- the record that stands nowhere
 abbrev pub none : Pending
-none = record { value = 0; bound = 0; pc = 0 }
+none = made 0 0 0
 
 map-set : {A B : Type 0} (f : A → B) (l : List A) (n : ℕ) (a : A) → map f (set l n a) ≡ set (map f l) n (f a)
 map-set f [] n a = refl
@@ -29,6 +32,9 @@ map-set f (x ∷ xs) (suc n) a = ap (λ r. f x ∷ r) (map-set f xs n a)
 
 pub fits-is : (n : ℕ) (l : List Pending) → listsFit (listed n l) ≡ leb n (length l)
 fits-is n l = simp (length-map l (λ (p : Pending). p .value), length-map l (λ (p : Pending). p .bound), length-map l (λ (p : Pending). p .pc), eq-eqb (length l) (length l) refl)
+
+pub room-is : (n : ℕ) (l : List Pending) → full (listed n l) ≡ fullAt (length l) n
+room-is n l = rw (length-map l (λ (p : Pending). p .value))
 
 module _ (n : ℕ) (l : List Pending) (p : Pending) where
   pub listed-more : n < length l → listed (n + 1) (set l n p) ≡ appended (p .value) (p .bound) (p .pc) (listed n l)
@@ -62,9 +68,6 @@ module _ (n i : ℕ) (l : List Pending) where
             rw (← List·getD-map (λ (p : Pending). p .value) l i none, ← List·getD-map (λ (p : Pending). p .bound) l i none, ← List·getD-map (λ (p : Pending). p .pc) l i none)
                 (entry-there i (listed n l) (fits-is n l ∙ le-leb n (length l) within) there),
           )
-
-abbrev made : ℕ → ℕ → ℕ → Pending
-made v b pc = record { value = v; bound = b; pc = pc }
 
 same-record : (v b pc v′ b′ pc′ : ℕ) → v ≡ v′ → b ≡ b′ → pc ≡ pc′ → made v b pc ≡ made v′ b′ pc′
 same-record v b pc v′ b′ pc′ e f g = rw (e, f, g)

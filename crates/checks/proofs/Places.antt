@@ -4,20 +4,17 @@ use mathlib.Core.Path.{_≡_, refl, sym, _∙_}
 use mathlib.Core.Bool.{Bool, true, false, not, _&&_}
 use lib.Dec.{eqb}
 use mathlib.Core.List.{List}
-use lib.ListN.{length, set, length-map}
+use lib.ListN.{length, set}
 use lib.Seq.{set-out}
 use native.Mathlib.Omega.{arith}
 use borrow.Author.Tests.{le-leb, lt-leb, eq-eqb, ne-eqb}
 use Rattle.refusal.specs.Stops.{refusalOf}
-use Rattle.run.specs.Pending.{listsFit, full, fullAt, appended}
+use Rattle.run.specs.Pending.{listsFit, full}
 use Rattle.run.specs.declared.pending.Appended.the-variants as A
 use Rattle.run.proofs.Lists.{append-malformed, append-full, append-done}
 use Rattle.checks.specs.Records.{listed, withOne, Fits}
 use Rattle.checks.specs.declared.Pending.{Pending}
-use Rattle.checks.proofs.Listed.{fits-is, listed-more, listed-same}
-
-room-is : (n : ℕ) (l : List Pending) → full (listed n l) ≡ fullAt (length l) n
-room-is n l = rw (length-map l (λ (p : Pending). p .value))
+use Rattle.checks.proofs.Listed.{fits-is, room-is, listed-more, listed-same}
 
 with-room : (n : ℕ) (l : List Pending) → n < length l → full (listed n l) ≡ false
 with-room n l h = room-is n l ∙ rw (lt-leb (length l) n h) (neither (eqb (length l) 0))

@@ -1,5 +1,6 @@
 -- The legs' laws: what is left to go from here gives the whole leg, and the legs of a run give the run.
 --     loop-is-legs     a run is its first leg, the listing of its check, and the run from there
+--     step-is-leg      a step is a leg of one step, and the listing of its check
 --     leg-within       a leg is of no more steps than it may be
 --     leg-moves        one that may go and goes on is of one step at least
 use Prim.Native.Nat.{ℕ, zero, suc, _+_, _-_, _<_, _≤_}
@@ -80,6 +81,20 @@ pub loop-is-legs : (n : ℕ) (k : Mode) (R : Rules) (w : World) (l : Lists) → 
 unfolding loop legIn goesOn stepOf listing
 loop-is-legs zero k R w l = refl
 loop-is-legs (suc n) k R w l = let s = stepIn k (full l) R w in first-step k R l (w .pc) n (s .went) (s .check) (s .world) (loop-is-legs n k R (s .world) l)
+
+one-step-leg : (k : Mode) (full : Bool) (R : Rules) (l : Lists) (pc : ℕ) (g : Went) (c : Check) (v : World) (a : Leg)
+    → a ≡ cond (goesOn g && unneeded c) (later 1 (legIn 0 k full R v)) (leg g (counted g) v c pc)
+    → left (a .went) (a .world) (listing (a .check) (a .pc) l) ≡ left g v (listing c pc l)
+unfolding legIn goesOn unneeded listing
+one-step-leg k full R l pc W.On Unneeded v a e = rw e
+one-step-leg k full R l pc W.On (Needed x b) v a e = rw e
+one-step-leg k full R l pc W.Ebreak c v a e = rw e
+one-step-leg k full R l pc W.Ecall c v a e = rw e
+one-step-leg k full R l pc (W.Refused r) c v a e = rw e
+
+pub step-is-leg : (k : Mode) (R : Rules) (w : World) (l : Lists) (a : Leg) → a ≡ legIn 1 k (full l) R w → left (a .went) (a .world) (listing (a .check) (a .pc) l) ≡ stepOf k R w l
+unfolding legIn stepOf
+step-is-leg k R w l a e = let s = stepIn k (full l) R w in one-step-leg k (full l) R l (w .pc) (s .went) (s .check) (s .world) a e
 
 at-most-one : (g : Went) → counted g ≤ 1
 unfolding counted

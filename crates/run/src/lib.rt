@@ -162,7 +162,7 @@ pub fn step(
     }
 }
 
-fn goes_on(went: Went) -> bool
+pub fn goes_on(went: Went) -> bool
     ensures { λ r. ⌜ r ≡ goesOn went ⌝ }
 {
     match went {
@@ -173,7 +173,7 @@ fn goes_on(went: Went) -> bool
     }
 }
 
-fn stop_of(went: Went) -> Stop
+pub fn stop_of(went: Went) -> Stop
     ensures { λ r. ⌜ r ≡ stopOf went ⌝ }
 {
     match went {
