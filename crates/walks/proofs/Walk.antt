@@ -34,7 +34,7 @@ pub use lib.Dec.{leb→le, lit<, nleb→lt}
 pub use lib.ListN.{getD, length, length-set, set}
 pub use lib.WfN.{Nat·lt-wfRel}
 pub use mathlib.Core.Bool.{Bool, false, true}
-pub use mathlib.Core.List.{List, [], _∷_}
+pub use mathlib.Core.List.{List, [], _++_, _∷_}
 pub use mathlib.Core.Path.{_∙_, _≡_, ap, refl, subst, sym}
 pub use mathlib.Core.WellFounded.{InvImage·wf, WellFounded}
 pub use mir.Syntax.{Lifetime, Ty, erased, mut, named, tyBool, tyInt, tyPtr, tyRef, tyUnit, w64, w8}
