@@ -27,7 +27,7 @@ use Rattle.run.specs.declared.leg.Gone.{Gone}
 use Rattle.run.proofs.Loops.{step-malformed, step-taken, run-malformed, run-halted, run-taken}
 use Rattle.run.proofs.Legs.{onward, loop-is-legs, step-is-leg, leg-within, leg-moves}
 use Rattle.checks.specs.Records.{listed}
-use Rattle.checks.specs.Machine.{Notes, Steps, Begins, Ahead, comesTo, number, ahead, Turns}
+use Rattle.checks.specs.Machine.{ranOver, Notes, Steps, Begins, Ahead, comesTo, number, ahead, Turns}
 use Rattle.checks.specs.declared.Pending.{Pending}
 use Rattle.checks.specs.declared.machine.Noted.{Noted}
 use Rattle.checks.specs.declared.machine.Going.{Going}
@@ -123,7 +123,14 @@ module _ (r : Going) (m m′ : List ℕ) (room : ℕ) (full : Bool) (is : full �
       let L = listed (r .ran .count) l in
       let sum : (r .ran .steps + g .steps) % 2 ^ 64 ≡ r .ran .steps + g .steps = omega (arith, within, h .0) in
       let whole : comesTo r m l ≡ after (r .ran .steps) (onward (r .left) (r .mode) documentRules L (gone g m′)) =
-        rw (on, loop-is-legs (r .left) (r .mode) documentRules (worldOf (r .ran .state) m) L, room-is (r .ran .count) l, e, ← is, ← one) in
-      ((omega (arith, sum, within, h .0),
-      rw (sum, noted l e) (joined (r .mode) (g .went) (r .ran .steps) (g .steps) (r .left - g .steps) (worldOf (g .state) m′) (listing (g .check) (g .pc) L)) ∙ sym whole ∙ h .1),
-      rw on (falls (goesOn (g .went)) (ltb 0 (r .left - g .steps)) refl refl))
+      rw (on, loop-is-legs (r .left) (r .mode) documentRules (worldOf (r .ran .state) m) L, room-is (r .ran .count) l, e, ← is, ← one) in (
+        (
+          omega (arith, sum, within, h .0),
+          rw (sum, noted l e) (joined (r .mode) (g .went) (r .ran .steps) (g .steps) (r .left - g .steps) (worldOf (g .state) m′) (listing (g .check) (g .pc) L)) ∙ sym whole ∙ h .1,
+        ),
+        rw on (falls (goesOn (g .went)) (ltb 0 (r .left - g .steps)) refl refl),
+      )
+
+-- a run that no longer goes on has come to its answer
+pub ended : (r : Going) (m : List ℕ) (l : List Pending) (a : Answer) → r .on ≡ false → comesTo r m l ≡ a → ranOver (r .ran) m l ≡ a
+ended r m l a f e = rw (← e, f)

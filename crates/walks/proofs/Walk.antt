@@ -6,7 +6,7 @@ pub use borrow.Author.Tests.{le-ltb, lt-ltb}
 pub use contract.Monad.{Fun, fact}
 pub use contract.Running.{givenOf, tables}
 unfoldable pub use contract.Running.{tablesOf}
-pub use denote.Builtin.{bool, u8, unit, usize}
+pub use denote.Builtin.{bool, u64, u8, unit, usize}
 pub use denote.Exit.{yes}
 pub use denote.Index.{closes-slice, elem-back, elem-out, elem-put, looks-slice, opens-slice, place-is, shuts-slice}
 pub use denote.Laws.{Is, shows}
