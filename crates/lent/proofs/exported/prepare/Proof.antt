@@ -1,0 +1,27 @@
+use mathlib.Core.Path.{sym, _∙_}
+use borrow.Author.Tests.{not-true, not-false}
+use Rattle.lent.specs.Lent.{readied}
+use borrow.Author.Needs.{needs}
+use Rattle.lent.proofs.exported.prepare.Statement.{statement}
+use Rattle.lent.proofs.exported.prepare.Tie as tie
+
+takes-requires : tie.Need-takes-requires
+takes-requires c κs = search needs
+
+returns : tie.Need-returns
+unfolding readied
+returns c = rw (sym (c .before .takes .ensures) ∙ not-true _ (c .if1 .taken))
+
+mode-of-requires : tie.Need-mode-of-requires
+mode-of-requires c κs = search needs
+
+state-in-requires : tie.Need-state-in-requires
+state-in-requires c κs = search needs
+
+returns-2 : tie.Need-returns-2
+unfolding readied
+returns-2 c = rw (sym (c .before .before .before .takes .ensures) ∙ not-false _ (c .before .before .if1 .left), c .state-in .ensures, c .before .mode-of .ensures)
+
+pub prepare-spec : {M : Type 1} → statement M
+prepare-spec =
+    tie.close (tie.spec takes-requires returns mode-of-requires state-in-requires returns-2)

@@ -1,0 +1,89 @@
+-- A step of a state that is lent as a record of numbers.
+use Prim.Native.Nat.{ℕ}
+use mathlib.Core.Bool.{Bool, true, false, cond, _&&_}
+use mathlib.Core.List.{List}
+use lib.Dec.{leb, eqb}
+use lib.ListN.{getD, replicate}
+use Rattle.refusal.specs.Stops.{refusalOf, codeOf, particularAt}
+use Rattle.state.specs.Formed.{allBelow}
+use Rattle.state.specs.declared.State.{State}
+use Rattle.execute.specs.World.{World, worldOf}
+use Rattle.execute.specs.declared.Mode.the-variants.{Deferred}
+use Rattle.execute.specs.declared.Went.{Went}
+use Rattle.execute.specs.declared.Went.the-variants as W
+use Rattle.run.specs.Pending.{Lists}
+use Rattle.run.specs.Step.{Left, left, documentRules, step}
+use Rattle.run.specs.Run.{stopOf}
+use Rattle.run.specs.declared.OneStep.{OneStep}
+use Rattle.host.specs.Layout.{markOf, table}
+use Rattle.host.specs.Call.{modeOf, stateOf}
+use Rattle.lent.specs.declared.exported.Lent.{Lent}
+use Rattle.lent.specs.declared.exported.Answer.{Answer}
+use Rattle.lent.specs.declared.exported.Ready.{Ready}
+use Rattle.lent.specs.declared.exported.Done.{Done}
+
+-- "halt mark 0 or 1", "kind 0 or 1"; what else the rules forbid of a state, its step refuses
+abbrev pub markFits : List ℕ → ℕ → Bool
+markFits kinds i = leb (getD kinds i 0) 1
+
+unfoldable pub laid : Lent → Bool
+laid r = leb (r .halted) 1 && allBelow (markFits (r .kinds)) 16
+
+-- a state's numbers, and the state of such numbers
+unfoldable pub stateIn : Lent → State
+stateIn r =
+    record {
+      pc = r .pc;
+      halted = eqb (r .halted) 1;
+      regs = r .values;
+      accumulated = table 16 0 (λ i. eqb (getD (r .kinds) i 0) 1);
+      bounds = r .bounds;
+    }
+
+unfoldable pub numbersOf : State → Lent
+numbersOf s =
+    record {
+      pc = s .pc;
+      halted = markOf (s .halted);
+      kinds = table 16 0 (λ i. markOf (getD (s .accumulated) i false));
+      bounds = s .bounds;
+      values = s .regs;
+    }
+
+-- a refused step leaves the record as it was
+unfoldable pub after : Lent → Went → State → Lent
+after r W.On s = numbersOf s
+after r W.Ebreak s = numbersOf s
+after r W.Ecall s = numbersOf s
+after r (W.Refused x) s = r
+
+-- what the call leaves
+pub record Stepped : Type 0 where
+  pub answer : Answer
+  pub state : Lent
+  pub memory : List ℕ
+  pub lists : Lists
+
+abbrev pub lentLeft : Answer → Lent → List ℕ → Lists → Stepped
+lentLeft a r m l = record { answer = a; state = r; memory = m; lists = l }
+
+-- code and particular are those of the stop that ends a run there; 0 where it goes on
+abbrev pub answerOf : Went → ℕ → Answer
+answerOf g n = record { code = codeOf (stopOf g); particular = particularAt (stopOf g); count = n }
+
+abbrev pub served : Lent → Left → Stepped
+served r s = lentLeft (answerOf (s .went) (s .lists .count)) (after r (s .went) (stateOf (s .world))) (s .world .memory) (s .lists)
+
+unfoldable pub stepLent : ℕ → Lent → List ℕ → Lists → Stepped
+stepLent mode r m l =
+    cond (leb mode 1 && laid r) (served r (step (modeOf mode) documentRules (worldOf (stateIn r) m) l)) (lentLeft (answerOf (W.Refused (refusalOf 9 0)) (l .count)) r m l)
+
+-- the inner functions: a state that every step refuses, what is stepped, and what a step gives
+abbrev pub shut : State
+shut = record { pc = 0; halted = false; regs = replicate 16 0; accumulated = replicate 16 false; bounds = replicate 16 1 }
+
+unfoldable pub readied : Lent → ℕ → Ready
+readied r mode = cond (leb mode 1 && laid r) (record { mode = modeOf mode; state = stateIn r }) (record { mode = Deferred; state = shut })
+
+abbrev pub concluded : Lent → OneStep → Done
+concluded r d = record { answer = answerOf (d .went) (d .count); lent = after r (d .went) (d .state) }
