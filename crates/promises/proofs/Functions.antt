@@ -1,5 +1,6 @@
 -- Each public function, in the order of crates.txt: two outcomes that its own contract allows are one. The name of a law is the function's,
 -- crate·module·function, and `tools/promises` holds this list to the source.
+use mathlib.Core.Path.{sym, ap, ap₂, _∙_}
 use mathlib.Core.List.{[]}
 use Rattle.encoding.proofs as encoding
 use Rattle.value.proofs as value
@@ -13,15 +14,19 @@ use Rattle.effect.proofs as effect
 use Rattle.execute.proofs as execute
 use Rattle.run.proofs as run
 use Rattle.host.proofs as host
+use Rattle.checks.proofs as checks
+use Rattle.lent.proofs as lent
 use Rattle.state.specs.Registers.{Registers}
 use Rattle.execute.specs.World.{Stepped}
 use Rattle.run.specs.Pending.{Lists}
 use Rattle.run.specs.Step.{Left}
 use Rattle.run.specs.Run.{Answer}
-use Rattle.host.specs.Call.{Called}
+use Rattle.run.specs.Leg.{Leg}
+use Rattle.host.specs.Call.{Called, stateOf}
+use Rattle.lent.specs.Lent as Lent
 use Rattle.promises.specs.Determined.{Determined}
 use Rattle.promises.proofs.Laws.{one, two, _&_}
-use Rattle.promises.proofs.Regrouped.{advanceOf, executedOf, oneStepOf, ranOf}
+use Rattle.promises.proofs.Regrouped.{advanceOf, executedOf, oneStepOf, ranOf, goneOf, outcomeOf, records-one}
 
 -- ---- encoding
 pub encoding·fields·extract-opcode : Determined encoding.fields.extract_opcode.ended encoding.fields.extract_opcode.Reads.Learnt
@@ -326,6 +331,9 @@ state·registers·normalise-all κs a x y = λ p q. one (λ (R : Registers). tt 
 pub effect·effect-of : Determined effect.effect_of.ended effect.effect_of.Reads.Learnt
 effect·effect-of κs a x y = one (λ r. r & x .1)
 
+pub effect·effect-of-parts : Determined effect.effect_of_parts.ended effect.effect_of_parts.Reads.Learnt
+effect·effect-of-parts κs a x y = one (λ r. r & x .1)
+
 -- ---- execute
 pub execute·lent·execute : Determined execute.lent.execute.ended execute.lent.execute.Reads.Learnt
 execute·lent·execute κs a x y = one (λ (s : Stepped). let R = s .world .registers in advanceOf s & tt & tt & tt & tt & tt & R .values & R .accumulated & R .bounds & s .world .memory & tt)
@@ -355,6 +363,15 @@ run·pending·empty κs a x y = one (λ (l : Lists). l .count & l .values & l .b
 pub run·pending·read : Determined run.pending.read.ended run.pending.read.Reads.Learnt
 run·pending·read κs a x y = one (λ r. r & x .1)
 
+pub run·goes-on : Determined run.goes_on.ended run.goes_on.Reads.Learnt
+run·goes-on κs a x y = one (λ r. r & x .1)
+
+pub run·stop-of : Determined run.stop_of.ended run.stop_of.Reads.Learnt
+run·stop-of κs a x y = one (λ r. r & x .1)
+
+pub run·leg·advance : Determined run.leg.advance.ended run.leg.advance.Reads.Learnt
+run·leg·advance κs a x y = one (λ (l : Leg). goneOf l & tt & tt & tt & tt & l .world .memory & tt)
+
 -- ---- host
 pub host·answer·write-answer : Determined host.answer.write_answer.ended host.answer.write_answer.Reads.Learnt
 host·answer·write-answer κs a x y = one (λ m. tt & m & x .1 .1)
@@ -373,3 +390,26 @@ host·layout·is-admissible κs a x y = one (λ r. r & x .1)
 
 pub host·zkir-run : Determined host.zkir_run.ended host.zkir_run.Reads.Learnt
 host·zkir-run κs a x y = one (λ (c : Called). c .code & c .state & c .memory & c .answer & x .1 .1 .1 .1)
+
+-- ---- checks
+pub checks·append : Determined checks.append.ended checks.append.Reads.Learnt
+checks·append κs a x y = λ p q. ap₂ (λ r l. r & l & x .1 .1) (p .0 ∙ sym (q .0)) (records-one (p .1) (q .1))
+
+pub checks·empty : Determined checks.empty.ended checks.empty.Reads.Learnt
+checks·empty κs a x y = λ p q. ap₂ (λ (h : Lists) l. h .count & l & x .1 .1) (p ∙ sym q) (records-one p q)
+
+pub checks·read : Determined checks.read.ended checks.read.Reads.Learnt
+checks·read κs a x y = one (λ r. r & x .1)
+
+pub checks·machine·step : Determined checks.machine.step.ended checks.machine.step.Reads.Learnt
+checks·machine·step κs a x y = λ p q. ap₂ (λ (s : Left) l. oneStepOf s & tt & tt & s .world .memory & l & tt & tt) (p ∙ sym q) (records-one (ap (λ (s : Left). s .lists) p) (ap (λ (s : Left). s .lists) q))
+
+pub checks·machine·run : Determined checks.machine.run.ended checks.machine.run.Reads.Learnt
+checks·machine·run κs a x y = λ p q. ap₂ (λ (r : Answer) l. ranOf r & tt & tt & tt & r .world .memory & l & tt & tt) (p ∙ sym q) (records-one (ap (λ (r : Answer). r .lists) p) (ap (λ (r : Answer). r .lists) q))
+
+-- ---- lent
+pub lent·step-in-place : Determined lent.step_in_place.ended lent.step_in_place.Reads.Learnt
+lent·step-in-place κs a x y = λ p q. ap₂ (λ (s : Left) l. outcomeOf s & stateOf (s .world) & tt & s .world .memory & l & tt & tt) (p ∙ sym q) (records-one (ap (λ (s : Left). s .lists) p) (ap (λ (s : Left). s .lists) q))
+
+pub lent·exported·zkir-step : Determined lent.exported.zkir_step.ended lent.exported.zkir_step.Reads.Learnt
+lent·exported·zkir-step κs a x y = λ p q. ap₂ (λ (s : Lent.Stepped) l. s .answer & s .state & s .memory & l & tt & tt & tt) (p ∙ sym q) (records-one (ap (λ (s : Lent.Stepped). s .lists) p) (ap (λ (s : Lent.Stepped). s .lists) q))
