@@ -1,0 +1,40 @@
+use borrow.Author.Needs.{needs}
+use Rattle.exports.proofs.limbs.oracle_normalize.Statement.{statement}
+use Rattle.exports.proofs.limbs.oracle_normalize.Tie as tie
+
+read-state-requires : tie.Need-read-state-requires
+read-state-requires c κs = search needs
+
+normalized-by-requires : tie.Need-normalized-by-requires
+normalized-by-requires c κs = search needs
+
+lay-out-requires : tie.Need-lay-out-requires
+lay-out-requires c κs = search needs
+
+same-length : tie.Need-same-length
+same-length c = search needs
+
+same-length-2 : tie.Need-same-length-2
+same-length-2 c = search needs
+
+same-length-3 : tie.Need-same-length-3
+same-length-3 c = search needs
+
+same-length-4 : tie.Need-same-length-4
+same-length-4 c = search needs
+
+returns : tie.Need-returns
+returns c = rw (c .before .before .before .before .before .before .before .before .lay-out .ensures, c .before .before .before .before .before .before .before .before .before .before .before .before .before .normalized-by .ensures, c .before .before .before .before .before .before .before .before .before .before .before .before .before .before .read-state .ensures)
+
+pub oracle-normalize-spec : {M : Type 1} → statement M
+oracle-normalize-spec =
+    tie.close
+    (tie.spec
+    read-state-requires
+    normalized-by-requires
+    lay-out-requires
+    same-length
+    same-length-2
+    same-length-3
+    same-length-4
+    returns)

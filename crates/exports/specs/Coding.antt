@@ -1,0 +1,35 @@
+-- Decoder and encoder, over numbers alone.
+use Prim.Native.Nat.{ℕ, _+_, _-_, _*_, _^_}
+use mathlib.Core.List.{List}
+use Rattle.refusal.specs.Stops.{numberOf, particularOf}
+use Rattle.opcode.specs.Opcodes.{opcodeNumber}
+use Rattle.opcode.specs.declared.Opcode.the-variants as O
+use Rattle.opcode.specs.declared.Found.{Found}
+use Rattle.opcode.specs.declared.Found.the-variants.{Op, Nothing}
+use Rattle.instruction.specs.Operands.{built, partsOf}
+use Rattle.instruction.specs.declared.Instruction.{Instruction}
+use Rattle.instruction.specs.declared.Parts.{Parts}
+use Rattle.instruction.specs.declared.Decoded.{Decoded}
+use Rattle.instruction.specs.declared.Decoded.the-variants as D
+use Rattle.instruction.specs.declared.Encoded.{Encoded}
+use Rattle.instruction.specs.declared.Encoded.the-variants as E
+use Rattle.host.specs.Answer.{answerBytes}
+
+-- the opcode's number and the registers at bits 7, 11 and 15, a byte each
+abbrev pub packedOf : Parts → ℕ
+packedOf p = opcodeNumber (p .op) + 2 ^ 8 * p .a + 2 ^ 16 * p .b + 2 ^ 24 * p .c
+
+-- 0, the packed parts, the immediate; or the refusal's number, 0, its particular
+abbrev pub decodedBytes : Decoded → List ℕ
+decodedBytes (D.Instruction i) = answerBytes 0 (packedOf (partsOf i)) (partsOf i .imm)
+decodedBytes (D.Refused r) = answerBytes (numberOf r) 0 (particularOf r)
+
+-- a word, or 2^64 - 1 less the refusal's number
+abbrev pub encodedNumber : Encoded → ℕ
+encodedNumber (E.Word w) = w
+encodedNumber (E.Refused r) = 2 ^ 64 - 1 - numberOf r
+
+-- the instruction of an opcode's number; for a number that is none's, one that the encoder refuses
+unfoldable pub givenOf : Found → ℕ → ℕ → ℕ → ℕ → Instruction
+givenOf (Op op) a b c imm = built op a b c imm
+givenOf Nothing a b c imm = built O.Add 16 16 16 0

@@ -1,0 +1,4 @@
+pub mod Coding
+pub mod Limbs
+pub mod Lists
+pub mod Machine

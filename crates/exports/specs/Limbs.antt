@@ -1,0 +1,48 @@
+-- normalize.rs over the bytes of a state, with three answers of three numbers each.
+use Prim.Native.Nat.{ℕ}
+use mathlib.Core.Bool.{Bool, true, false, cond}
+use mathlib.Core.List.{List}
+use lib.ListN.{getD}
+use lib.Dec.{eqb}
+use Rattle.refusal.specs.Stops.{numberOf}
+use Rattle.state.specs.Normalizing.{hasCarries, totalCarry, normalizeRegister, normalizeAndWrite, normalizeIfNearOverflow}
+use Rattle.state.specs.declared.State.{State}
+use Rattle.state.specs.declared.normalize.Normalized.{Normalized}
+use Rattle.state.specs.declared.normalize.Normalizing.{Normalizing}
+use Rattle.state.specs.declared.normalize.Normalizing.the-variants.{Unneeded, Done, Refused}
+use Rattle.host.specs.Layout.{STATE_BYTES, stateBytes, written}
+use Rattle.host.specs.Answer.{ANSWER_BYTES, answerBytes}
+
+-- 0 `normalize_register`, 1 `normalize_if_near_overflow`, any other `normalize_and_write`, which alone looks at the limbs given
+unfoldable pub normalizedBy : ℕ → State → ℕ → ℕ → ℕ → Normalized
+normalizedBy which s reg low high =
+    cond (eqb which 0) (normalizeRegister s reg) (cond (eqb which 1) (normalizeIfNearOverflow s reg) (normalizeAndWrite s reg low high))
+
+pub record Lent : Type 0 where
+  pub state : List ℕ
+  pub before : List ℕ
+  pub after : List ℕ
+  pub carries : List ℕ
+
+abbrev pub lent : List ℕ → List ℕ → List ℕ → List ℕ → Lent
+lent st be af ca = record { state = st; before = be; after = af; carries = ca }
+
+-- 0 done, 64 unneeded, or the refusal's number
+abbrev pub codeOf : Normalizing → ℕ
+codeOf Done = 0
+codeOf Unneeded = 64
+codeOf (Refused r) = numberOf r
+
+abbrev pub bitOf : Bool → ℕ
+bitOf false = 0
+bitOf true = 1
+
+-- the code and the limbs before; the limbs after and whether there are carries; the carries and their total
+abbrev pub laidOut : Normalized → Lent → Lent
+laidOut n g =
+    let r = n .result in
+    lent
+    (written STATE_BYTES (stateBytes (n .state)) (g .state))
+    (written ANSWER_BYTES (answerBytes (codeOf (n .answer)) (getD (r .accumulated) 0 0) (getD (r .accumulated) 1 0)) (g .before))
+    (written ANSWER_BYTES (answerBytes (getD (r .normalized) 0 0) (getD (r .normalized) 1 0) (bitOf (hasCarries r))) (g .after))
+    (written ANSWER_BYTES (answerBytes (getD (r .carries) 0 0) (getD (r .carries) 1 0) (totalCarry r)) (g .carries))

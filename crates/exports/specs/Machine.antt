@@ -1,0 +1,76 @@
+-- One given instruction, one step and a run with lists, over the bytes of a state.
+use Prim.Native.Nat.{ℕ}
+use mathlib.Core.List.{List}
+use Rattle.refusal.specs.Stops.{numberOf, particularOf, codeOf, particularAt}
+use Rattle.execute.specs.World.{World, Stepped}
+use Rattle.execute.specs.declared.Went.{Went}
+use Rattle.execute.specs.declared.Went.the-variants as W
+use Rattle.execute.specs.declared.Check.{Check}
+use Rattle.execute.specs.declared.Check.the-variants.{Unneeded, Needed}
+use Rattle.run.specs.Pending.{Lists}
+use Rattle.run.specs.Step.{Left}
+use Rattle.run.specs.Run.{Answer}
+use Rattle.host.specs.Layout.{STATE_BYTES, stateBytes, written}
+use Rattle.host.specs.Answer.{ANSWER_BYTES, answerBytes}
+use Rattle.host.specs.Call.{stateOf}
+
+-- as a stop that it would be: 0 where it goes on
+abbrev pub wentCode : Went → ℕ
+wentCode W.On = 0
+wentCode W.Ebreak = 64
+wentCode W.Ecall = 65
+wentCode (W.Refused r) = numberOf r
+
+abbrev pub wentParticular : Went → ℕ
+wentParticular W.On = 0
+wentParticular W.Ebreak = 0
+wentParticular W.Ecall = 0
+wentParticular (W.Refused r) = particularOf r
+
+-- 1, the value and the bound; or zeros
+abbrev pub checkBytes : Check → List ℕ
+checkBytes Unneeded = answerBytes 0 0 0
+checkBytes (Needed value bound) = answerBytes 1 value bound
+
+-- what is lent to a given instruction
+pub record Given : Type 0 where
+  pub state : List ℕ
+  pub memory : List ℕ
+  pub answer : List ℕ
+  pub check : List ℕ
+
+abbrev pub given : List ℕ → List ℕ → List ℕ → List ℕ → Given
+given st m an ck = record { state = st; memory = m; answer = an; check = ck }
+
+-- "code, steps, particular": no steps are counted here
+abbrev pub executedIn : Stepped → Given → Given
+executedIn s g =
+    given
+    (written STATE_BYTES (stateBytes (stateOf (s .world))) (g .state))
+    (s .world .memory)
+    (written ANSWER_BYTES (answerBytes (wentCode (s .went)) 0 (wentParticular (s .went))) (g .answer))
+    (written ANSWER_BYTES (checkBytes (s .check)) (g .check))
+
+-- what is lent to a step or a run
+pub record Lent : Type 0 where
+  pub state : List ℕ
+  pub memory : List ℕ
+  pub answer : List ℕ
+  pub lists : Lists
+
+abbrev pub lent : List ℕ → List ℕ → List ℕ → Lists → Lent
+lent st m an l = record { state = st; memory = m; answer = an; lists = l }
+
+abbrev pub leaving : ℕ → ℕ → ℕ → World → Lists → Lent → Lent
+leaving code steps particular w l b =
+    lent
+    (written STATE_BYTES (stateBytes (stateOf w)) (b .state))
+    (w .memory)
+    (written ANSWER_BYTES (answerBytes code steps particular) (b .answer))
+    l
+
+abbrev pub steppedIn : Left → Lent → Lent
+steppedIn s b = leaving (wentCode (s .went)) 0 (wentParticular (s .went)) (s .world) (s .lists) b
+
+abbrev pub ranIn : Answer → Lent → Lent
+ranIn a b = leaving (codeOf (a .stop)) (a .steps) (particularAt (a .stop)) (a .world) (a .lists) b
