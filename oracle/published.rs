@@ -5,7 +5,7 @@ use std::path::{Path, PathBuf};
 use std::{env, fs, process};
 
 /// Copies `<package>/src/<module>.rs` for each module to OUT_DIR, and writes OUT_DIR/published.rs, which declares them
-/// and lists their names, lengths and hashes.
+/// and lists their names, lengths, hashes and texts.
 fn take_published(package: &str, modules: &[&str]) {
     println!("cargo:rerun-if-env-changed=ZKIR_SRC");
     println!("cargo:rerun-if-changed=../published.rs");
@@ -13,6 +13,7 @@ fn take_published(package: &str, modules: &[&str]) {
     let out = PathBuf::from(env::var_os("OUT_DIR").expect("cargo sets OUT_DIR"));
     let mut declared = String::new();
     let mut listed = String::new();
+    let mut texts = String::new();
     for module in modules {
         let from = source.join(format!("{module}.rs"));
         let copy = out.join(format!("{module}.rs"));
@@ -20,8 +21,10 @@ fn take_published(package: &str, modules: &[&str]) {
         let text = copy_unchanged(&from, &copy);
         declared += &format!("#[allow(warnings)]\n#[path = {:?}]\npub mod {module};\n", copy.display().to_string());
         listed += &format!("    ({:?}, {}, {:#018x}),\n", format!("{module}.rs"), text.len(), fnv1a(&text));
+        texts += &format!("    ({:?}, include_str!({:?})),\n", format!("{module}.rs"), copy.display().to_string());
     }
     let table = format!("/// The published files compiled here: name, length, FNV-1a hash of the bytes.\npub const PUBLISHED: &[(&str, usize, u64)] = &[\n{listed}];\n");
+    let table = table + &format!("/// The text of each.\npub const TEXTS: &[(&str, &str)] = &[\n{texts}];\n");
     fs::write(out.join("published.rs"), declared + &table).expect("OUT_DIR can be written");
 }
 

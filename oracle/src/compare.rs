@@ -83,12 +83,12 @@ impl fmt::Display for Difference {
     }
 }
 
-fn hex(bytes: &[u8]) -> String {
+pub(crate) fn hex(bytes: &[u8]) -> String {
     bytes.iter().map(|byte| format!("{byte:02x} ")).collect::<String>().trim_end().to_string()
 }
 
 /// The nonzero 8-byte numbers of a state, each with its place.
-fn lines(name: &str, state: &[u8]) -> String {
+pub(crate) fn lines(name: &str, state: &[u8]) -> String {
     if state.len() != STATE_BYTES {
         return format!("{name} {:x} bytes: {}\n", state.len(), hex(state));
     }

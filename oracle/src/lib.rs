@@ -5,11 +5,15 @@ pub mod bench;
 pub mod case;
 pub mod compare;
 pub mod corners;
+#[cfg(exports)]
+pub mod exported;
 pub mod generate;
 pub mod host;
+pub mod inside;
 pub mod layout;
 pub mod listed;
 pub mod machine;
+pub mod numbers;
 pub mod programs;
 pub mod random;
 pub mod refusal;

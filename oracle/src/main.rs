@@ -8,19 +8,23 @@ use std::time::Instant;
 use oracle::bench;
 use oracle::compare::Comparer;
 use oracle::generate;
+use oracle::inside::{self, InsideComparer};
 use oracle::machine::Mode;
+use oracle::numbers;
 use oracle::programs::printed;
 use oracle::random::Random;
 use oracle::subject::subject;
 use oracle::sweep::{Share, LARGE, SMALL};
 use oracle::vectors;
-use oracle::words::keeps_laws;
+use oracle::words::{self, keeps_laws};
 
 const USAGE: &str = "usage: oracle COMMAND
   published               the published files that were compiled: name, length, hash
   run COUNT [SEED]        compares COUNT generated calls
   sweep [ONE_IN [SEED]]   compares the enumerated calls of one step, or one in so many
-  words [COUNT [SEED]]    tests the laws of words on all 2^32, or on COUNT random ones
+  words [COUNT [SEED]]    compares all 2^32 words, or COUNT random ones, and tests the laws of words
+  functions [COUNT [SEED]] compares each function of numbers on corners and on COUNT drawn arguments
+  inside COUNT [SEED]     compares COUNT generated calls of what the host call does not reach
   vectors FILE            writes the fixed list of the oracle's answers
   lines FILE COUNT [SEED] writes COUNT generated calls in the same form
   replay FILE             replays such a list through the subject
@@ -36,6 +40,8 @@ fn main() -> ExitCode {
         Some("run") => run(number(1).unwrap_or(100_000), seed(2)),
         Some("sweep") => sweep(number(1).unwrap_or(1), seed(2)),
         Some("words") => words(number(1), seed(2)),
+        Some("functions") => functions(number(1).unwrap_or(10_000), seed(2)),
+        Some("inside") => inside(number(1).unwrap_or(100_000), seed(2)),
         Some("vectors") if arguments.len() == 2 => write_lines(&arguments[1], vectors::file()),
         Some("lines") if arguments.len() >= 3 => {
             write_lines(&arguments[1], vectors::generated_file(number(2).unwrap_or(0), seed(3)))
@@ -116,17 +122,69 @@ fn compared(calls: impl FnOnce(&mut Comparer)) -> bool {
 }
 
 fn words(count: Option<u64>, seed: u64) -> bool {
-    let mut random = Random::seeded(seed);
-    let broken = match count {
-        None => (0..=u32::MAX).find(|&word| !keeps_laws(word)),
-        Some(count) => (0..count).map(|_| random.draw() as u32).find(|&word| !keeps_laws(word)),
+    let (name, subject) = words::subject();
+    let wrong = |word: u32| !keeps_laws(word) || !words::agrees(word, &*subject);
+    let started = Instant::now();
+    let found = match count {
+        None => all_words(&wrong),
+        Some(count) => {
+            let mut random = Random::seeded(seed);
+            (0..count).map(|_| random.draw() as u32).find(|&word| wrong(word))
+        }
     };
-    match (broken, count) {
-        (Some(word), _) => println!("word {word:08x} breaks a law"),
-        (None, None) => println!("all words keep the laws"),
-        (None, Some(count)) => println!("{count} words of seed {seed} keep the laws"),
+    let asked = count.map_or("all 2^32 words".to_string(), |count| format!("{count} words of seed {seed}"));
+    match found {
+        None => println!("{asked} compared with {name} in {:.1} s: no difference", started.elapsed().as_secs_f64()),
+        Some(word) if !keeps_laws(word) => println!("word {word:08x} breaks a law of the oracle's own"),
+        Some(word) => println!("{}", words::shrunk(word, &*subject)),
     }
-    broken.is_none()
+    found.is_none()
+}
+
+/// The least word that is wrong, sought by as many threads as there are processors.
+fn all_words(wrong: &(impl Fn(u32) -> bool + Sync)) -> Option<u32> {
+    let threads = std::thread::available_parallelism().map_or(1, usize::from) as u64;
+    let part = |index: u64| (index * (1 << 32) / threads..(index + 1) * (1 << 32) / threads).map(|word| word as u32);
+    std::thread::scope(|scope| {
+        let handles: Vec<_> =
+            (0..threads).map(|index| scope.spawn(move || part(index).find(|&word| wrong(word)))).collect();
+        handles.into_iter().filter_map(|handle| handle.join().expect("a comparison does not panic")).next()
+    })
+}
+
+fn functions(count: u64, seed: u64) -> bool {
+    let mut random = Random::seeded(seed);
+    let (mut asked, mut compared) = (0, 0);
+    for function in numbers::functions() {
+        match numbers::compare(function, numbers::subject(function), count, &mut random) {
+            Ok(more) => compared += more,
+            Err(difference) => {
+                println!("{difference}");
+                return false;
+            }
+        }
+        asked += 1;
+    }
+    let (name, _) = words::subject();
+    println!("{asked} functions of numbers, seed {seed}, compared with {name}: {compared} answers, no difference");
+    true
+}
+
+fn inside(count: u64, seed: u64) -> bool {
+    let (name, subject) = inside::subject();
+    let mut comparer = InsideComparer::new(subject);
+    let mut random = Random::seeded(seed);
+    let started = Instant::now();
+    while comparer.compared < count && comparer.compare(&inside::generated(&mut random)) {}
+    let (compared, seconds) = (comparer.compared, started.elapsed().as_secs_f64());
+    println!("{compared} calls inside the library, seed {seed}, compared with {name} in {seconds:.1} s");
+    let met = (0..66).filter(|&code| comparer.codes[code] > 0).map(|code| format!(" {code}: {}", comparer.codes[code]));
+    println!("  checks appended {}, codes:{}", comparer.appended, met.collect::<Vec<_>>().join(","));
+    match &comparer.difference {
+        None => println!("no difference"),
+        Some(difference) => println!("{difference}"),
+    }
+    comparer.difference.is_none()
 }
 
 fn write_lines(path: &str, text: String) -> bool {

@@ -1,5 +1,7 @@
 //! What there is to ask about a word, as plain numbers.
 
+use std::fmt;
+
 use zkir_spec::encoding::*;
 use zkir_spec::{decode, encode, Operands, Undecodable};
 
@@ -59,6 +61,77 @@ fn decoded(word: u32) -> Decoded {
         Operands::Alone => ([0; 3], 0),
     };
     Decoded::Instruction { opcode: instruction.opcode() as u64, registers: registers.map(u64::from), imm }
+}
+
+/// The parts of a word's instruction: its opcode, the registers at bits 7, 11 and 15, as far as it has them, and the
+/// immediate. None where it has no instruction.
+pub fn parts(word: u32) -> Option<(u8, [u8; 3], u64)> {
+    let Decoded::Instruction { opcode, registers, imm } = decoded(word) else { return None };
+    let [rd, rs1, rs2] = registers.map(|register| register as u8);
+    let has_rd = !(is_stype(word) || is_btype(word));
+    Some((opcode as u8, if has_rd { [rd, rs1, rs2] } else { [rs1, rs2, 0] }, imm))
+}
+
+/// What a subject answers of a word, in the order of `Word`, and whether its encoder gives the word back.
+pub trait WordSubject: Sync {
+    fn taken_apart(&self, word: u32) -> Word;
+    fn gives_back(&self, word: u32) -> bool;
+}
+
+/// The oracle as its own subject.
+pub struct OracleWords;
+
+impl WordSubject for OracleWords {
+    fn taken_apart(&self, word: u32) -> Word {
+        taken_apart(word)
+    }
+
+    fn gives_back(&self, word: u32) -> bool {
+        decode(word).is_ok_and(|instruction| encode(&instruction) == Ok(word))
+    }
+}
+
+/// Whether subject and oracle agree on a word and on the word of its instruction.
+pub fn agrees(word: u32, subject: &dyn WordSubject) -> bool {
+    let right = taken_apart(word);
+    let encoded = match right.decoded {
+        Decoded::Refused(_) => true,
+        Decoded::Instruction { .. } => subject.gives_back(word),
+    };
+    encoded && subject.taken_apart(word) == right
+}
+
+/// The word with as few bits as it can do without and still be differed on.
+pub fn shrunk(word: u32, subject: &dyn WordSubject) -> WordDifference {
+    let mut smallest = word;
+    while let Some(fewer) = (0..32).map(|bit| smallest & !(1 << bit)).find(|&w| w != smallest && !agrees(w, subject)) {
+        smallest = fewer;
+    }
+    let gives_back = subject.gives_back(smallest);
+    WordDifference { word: smallest, oracle: taken_apart(smallest), subject: subject.taken_apart(smallest), gives_back }
+}
+
+/// The archive where its functions are linked, else the oracle itself.
+pub fn subject() -> (&'static str, Box<dyn WordSubject>) {
+    #[cfg(exports)]
+    return ("the archive", Box::new(crate::exported::ArchiveWords::new()));
+    #[cfg(not(exports))]
+    return ("the oracle itself (no ZKIR_EXPORTS at build time)", Box::new(OracleWords));
+}
+
+pub struct WordDifference {
+    pub word: u32,
+    pub oracle: Word,
+    pub subject: Word,
+    pub gives_back: bool,
+}
+
+impl fmt::Display for WordDifference {
+    fn fmt(&self, f: &mut fmt::Formatter) -> fmt::Result {
+        writeln!(f, "the smallest word on which they differ, in hex: {:08x}", self.word)?;
+        writeln!(f, "  oracle {:x?}\n  subject {:x?}", self.oracle, self.subject)?;
+        write!(f, "  the subject's encoder gives the word back: {}", self.gives_back)
+    }
 }
 
 /// Whether the word keeps the oracle's own laws: it is of one kind at most, of one exactly where its opcode is valid, and

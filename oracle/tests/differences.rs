@@ -6,11 +6,12 @@ use oracle::machine::{normalize_and_write, Machine, Mode};
 use oracle::refusal::Refusal;
 use oracle::tally::Tally;
 use zkir_runtime::deferred::{execute_sub_deferred, DeferredConfig};
+use zkir_runtime::error::RuntimeError;
 use zkir_runtime::execute::execute;
 use zkir_runtime::memory::Memory;
 use zkir_runtime::range_check::RangeCheckTracker;
 use zkir_runtime::state::{Held, VMState};
-use zkir_spec::{Instruction, Register};
+use zkir_spec::{Instruction, Opcode, Register};
 
 const R0: Register = Register(0);
 const R1: Register = Register(1);
@@ -28,6 +29,22 @@ fn given(state: VMState, instruction: Instruction, mode: Mode) -> VMState {
     machine.state
 }
 
+fn by_the_text(
+    instruction: Instruction,
+    state: &mut VMState,
+    lists: Option<&mut RangeCheckTracker>,
+) -> Result<(), RuntimeError> {
+    execute(&instruction, state, &mut Memory::lent(&mut []), lists)
+}
+
+/// By document 01, in the plain mode: refused, and nothing changed.
+fn refused(state: VMState, instruction: Instruction, lists: RangeCheckTracker) -> Refusal {
+    let mut machine = Machine { state, memory: Memory::lent(&mut []), lists, tally: &mut Tally::new() };
+    let refusal = machine.execute_given(&instruction, Mode::Plain).expect_err("refused");
+    assert_eq!(machine.state, state);
+    refusal
+}
+
 /// Sub R1,R0,R1 (word 00008082) with R1 = 1: the text's low limb is 2^64-1, which is no limb; 01 does the plain Sub.
 #[test]
 fn a_deferred_sub_that_borrows() {
@@ -40,14 +57,68 @@ fn a_deferred_sub_that_borrows() {
     assert_eq!(state.register_states.get(R1), Held::Whole(0xff_ffff_ffff));
 }
 
-/// Jal R1,0 given at pc 2^64-4: the text's sum overflows (built with overflow checks it panics); 01 wraps to 0.
+/// Jal R1,0 and Jalr R1,R0,0 given at pc 2^64-4: the text's sum overflows (built with overflow checks it panics); 01 wraps
+/// to 0.
 #[test]
 fn a_return_address_at_the_top() {
     let mut state = VMState::fresh();
     state.pc = u64::MAX - 3;
-    let jal = Instruction::Jal { rd: R1, offset: 0 };
-    assert!(catch_unwind(move || execute(&jal, &mut { state }, &mut Memory::lent(&mut []), None)).is_err());
-    assert_eq!(given(state, jal, Mode::Plain).read_reg(R1), 0);
+    for jump in [Instruction::Jal { rd: R1, offset: 0 }, Instruction::Jalr { rd: R1, rs1: R0, imm: 0 }] {
+        assert!(catch_unwind(move || by_the_text(jump, &mut { state }, None)).is_err(), "{jump:?}");
+        assert_eq!(given(state, jump, Mode::Plain).read_reg(R1), 0);
+    }
+}
+
+/// Slli R1,R1,64 given, R1 = 1: the text shifts, and leaves 0; 01 refuses (9) what the encoder refuses.
+#[test]
+fn a_shift_amount_that_fits_no_word() {
+    let slli = Instruction::Slli { rd: R1, rs1: R1, shamt: 64 };
+    let mut state = r1(Held::Whole(1));
+    assert_eq!(by_the_text(slli, &mut state, None), Ok(()));
+    assert_eq!((state.read_reg(R1), state.pc), (0, 4));
+    assert_eq!(refused(r1(Held::Whole(1)), slli, RangeCheckTracker::none()), Refusal::Malformed);
+}
+
+/// Add R1,R1,R1, R1 = 1 of 40 bits, a list without room: the text looks at no answer of the list and goes on; 01 refuses (8).
+#[test]
+fn a_check_that_finds_the_list_full() {
+    let add = Instruction::Add { rd: R1, rs1: R1, rs2: R1 };
+    let mut state = VMState::fresh();
+    state.set_unchecked(R1, Held::Whole(1), 40);
+    let before = state;
+    let mut entries = [[0], [0], [0]];
+    let [values, bounds, pcs] = &mut entries;
+    assert_eq!(by_the_text(add, &mut state, Some(&mut RangeCheckTracker::lent(values, bounds, pcs, 1))), Ok(()));
+    assert_eq!(state.read_reg(R1), 2);
+    let [values, bounds, pcs] = &mut entries;
+    assert_eq!(refused(before, add, RangeCheckTracker::lent(values, bounds, pcs, 1)), Refusal::ListFull { pc: 0 });
+}
+
+/// Jal R0,0 with R1 accumulated, limbs 0 and 0: the text does not look; 01 refuses (9) it in the plain mode.
+#[test]
+fn an_accumulated_register_in_the_plain_mode() {
+    let jal = Instruction::Jal { rd: R0, offset: 0 };
+    let state = r1(Held::Accumulated([0, 0]));
+    assert_eq!(by_the_text(jal, &mut { state }, None), Ok(()));
+    assert_eq!(refused(state, jal, RangeCheckTracker::none()), Refusal::Malformed);
+}
+
+/// The text's comment counts 47 instructions; its match has 50, which are those of document 01, in its order.
+#[test]
+fn the_comment_counts_47() {
+    let text = zkir_runtime::TEXTS.iter().find(|(name, _)| *name == "execute.rs").expect("execute.rs is published").1;
+    assert!(text.contains("all 47 instructions"));
+    let arms = text.lines().filter_map(|line| line.strip_prefix("        Instruction::"));
+    let names: Vec<&str> = arms.map(|arm| arm.split(' ').next().expect("a name")).collect();
+    assert_eq!(names, Opcode::ALL.map(|opcode| format!("{opcode:?}")));
+}
+
+/// `execute_with_deferred` is not in the published text, nor is anything that makes a witness.
+#[test]
+fn what_is_not_published() {
+    for (name, text) in zkir_runtime::TEXTS {
+        assert!(!text.contains("fn execute_with_deferred") && !text.contains("NormalizationEvent::"), "{name}");
+    }
 }
 
 /// Limbs of 2^30 and more: the text normalises 40000000, 0 and loses the carry of 10000000000000, 0; 01 refuses both (9).

@@ -1,7 +1,7 @@
 //! Words: the laws of kinds, decoder and encoder, and what the encoder refuses.
 
 use oracle::random::Random;
-use oracle::words::{keeps_laws, taken_apart, Decoded};
+use oracle::words::{agrees, keeps_laws, shrunk, taken_apart, Decoded, OracleWords, Word, WordSubject};
 use zkir_spec::encoding::{encode_itype, encode_jtype, encode_rtype, encode_stype};
 use zkir_spec::{encode, Instruction, Opcode, Register, Unencodable};
 
@@ -45,4 +45,30 @@ fn a_store_has_rs1_at_bits_7_to_10() {
         panic!("Sw is valid")
     };
     assert_eq!((opcode, registers, imm), (39, [0, 2, 3], 8));
+}
+
+/// Reads a store's rs1 at bits 11-14.
+struct Swapped;
+
+impl WordSubject for Swapped {
+    fn taken_apart(&self, word: u32) -> Word {
+        let mut right = taken_apart(word);
+        if let Decoded::Instruction { opcode: 37..=40, registers, .. } = &mut right.decoded {
+            registers.swap(1, 2);
+        }
+        right
+    }
+
+    fn gives_back(&self, word: u32) -> bool {
+        OracleWords.gives_back(word)
+    }
+}
+
+#[test]
+fn a_wrong_decoder_is_found_and_its_word_shrunk() {
+    let mut random = Random::seeded(12);
+    assert!((0..1_000).all(|_| agrees(random.draw() as u32, &OracleWords)));
+    let word = (0..).map(|_| random.draw() as u32).find(|&word| !agrees(word, &Swapped)).expect("a store comes");
+    let difference = shrunk(word, &Swapped);
+    assert!(difference.word.count_ones() <= 4 && difference.word & 0x7f >= 37, "{difference}");
 }

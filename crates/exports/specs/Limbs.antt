@@ -7,6 +7,7 @@ use lib.Dec.{eqb}
 use Rattle.refusal.specs.Stops.{numberOf}
 use Rattle.state.specs.Normalizing.{hasCarries, totalCarry, normalizeRegister, normalizeAndWrite, normalizeIfNearOverflow}
 use Rattle.state.specs.declared.State.{State}
+use Rattle.state.specs.declared.normalize.NormalizationResult.{NormalizationResult}
 use Rattle.state.specs.declared.normalize.Normalized.{Normalized}
 use Rattle.state.specs.declared.normalize.Normalizing.{Normalizing}
 use Rattle.state.specs.declared.normalize.Normalizing.the-variants.{Unneeded, Done, Refused}
@@ -37,12 +38,22 @@ abbrev pub bitOf : Bool → ℕ
 bitOf false = 0
 bitOf true = 1
 
--- the code and the limbs before; the limbs after and whether there are carries; the carries and their total
+-- the code and the limbs before
+abbrev pub beforeBytes : Normalizing → NormalizationResult → List ℕ
+beforeBytes n r = answerBytes (codeOf n) (getD (r .accumulated) 0 0) (getD (r .accumulated) 1 0)
+
+-- the limbs after, and whether there are carries
+abbrev pub afterBytes : NormalizationResult → List ℕ
+afterBytes r = answerBytes (getD (r .normalized) 0 0) (getD (r .normalized) 1 0) (bitOf (hasCarries r))
+
+-- the carries and their total
+abbrev pub carryBytes : NormalizationResult → List ℕ
+carryBytes r = answerBytes (getD (r .carries) 0 0) (getD (r .carries) 1 0) (totalCarry r)
+
 abbrev pub laidOut : Normalized → Lent → Lent
 laidOut n g =
-    let r = n .result in
     lent
     (written STATE_BYTES (stateBytes (n .state)) (g .state))
-    (written ANSWER_BYTES (answerBytes (codeOf (n .answer)) (getD (r .accumulated) 0 0) (getD (r .accumulated) 1 0)) (g .before))
-    (written ANSWER_BYTES (answerBytes (getD (r .normalized) 0 0) (getD (r .normalized) 1 0) (bitOf (hasCarries r))) (g .after))
-    (written ANSWER_BYTES (answerBytes (getD (r .carries) 0 0) (getD (r .carries) 1 0) (totalCarry r)) (g .carries))
+    (written ANSWER_BYTES (beforeBytes (n .answer) (n .result)) (g .before))
+    (written ANSWER_BYTES (afterBytes (n .result)) (g .after))
+    (written ANSWER_BYTES (carryBytes (n .result)) (g .carries))

@@ -2,6 +2,7 @@
 use Prim.Native.Nat.{ℕ}
 use mathlib.Core.List.{List}
 use Rattle.refusal.specs.Stops.{numberOf, particularOf, codeOf, particularAt}
+use Rattle.refusal.specs.declared.Stop.{Stop}
 use Rattle.execute.specs.World.{World, Stepped}
 use Rattle.execute.specs.declared.Went.{Went}
 use Rattle.execute.specs.declared.Went.the-variants as W
@@ -27,6 +28,13 @@ wentParticular W.Ebreak = 0
 wentParticular W.Ecall = 0
 wentParticular (W.Refused r) = particularOf r
 
+-- "code, steps, particular"; a step by itself counts none
+abbrev pub wentBytes : Went → List ℕ
+wentBytes g = answerBytes (wentCode g) 0 (wentParticular g)
+
+abbrev pub stopBytes : Stop → ℕ → List ℕ
+stopBytes p steps = answerBytes (codeOf p) steps (particularAt p)
+
 -- 1, the value and the bound; or zeros
 abbrev pub checkBytes : Check → List ℕ
 checkBytes Unneeded = answerBytes 0 0 0
@@ -42,13 +50,12 @@ pub record Given : Type 0 where
 abbrev pub given : List ℕ → List ℕ → List ℕ → List ℕ → Given
 given st m an ck = record { state = st; memory = m; answer = an; check = ck }
 
--- "code, steps, particular": no steps are counted here
 abbrev pub executedIn : Stepped → Given → Given
 executedIn s g =
     given
     (written STATE_BYTES (stateBytes (stateOf (s .world))) (g .state))
     (s .world .memory)
-    (written ANSWER_BYTES (answerBytes (wentCode (s .went)) 0 (wentParticular (s .went))) (g .answer))
+    (written ANSWER_BYTES (wentBytes (s .went)) (g .answer))
     (written ANSWER_BYTES (checkBytes (s .check)) (g .check))
 
 -- what is lent to a step or a run
@@ -61,16 +68,12 @@ pub record Lent : Type 0 where
 abbrev pub lent : List ℕ → List ℕ → List ℕ → Lists → Lent
 lent st m an l = record { state = st; memory = m; answer = an; lists = l }
 
-abbrev pub leaving : ℕ → ℕ → ℕ → World → Lists → Lent → Lent
-leaving code steps particular w l b =
-    lent
-    (written STATE_BYTES (stateBytes (stateOf w)) (b .state))
-    (w .memory)
-    (written ANSWER_BYTES (answerBytes code steps particular) (b .answer))
-    l
+abbrev pub leaving : List ℕ → World → Lists → Lent → Lent
+leaving answered w l b =
+    lent (written STATE_BYTES (stateBytes (stateOf w)) (b .state)) (w .memory) (written ANSWER_BYTES answered (b .answer)) l
 
 abbrev pub steppedIn : Left → Lent → Lent
-steppedIn s b = leaving (wentCode (s .went)) 0 (wentParticular (s .went)) (s .world) (s .lists) b
+steppedIn s b = leaving (wentBytes (s .went)) (s .world) (s .lists) b
 
 abbrev pub ranIn : Answer → Lent → Lent
-ranIn a b = leaving (codeOf (a .stop)) (a .steps) (particularAt (a .stop)) (a .world) (a .lists) b
+ranIn a b = leaving (stopBytes (a .stop) (a .steps)) (a .world) (a .lists) b

@@ -5,12 +5,14 @@ use host::layout::write_state;
 use refusal::number;
 use state::State;
 use state::normalize;
+use state::normalize::NormalizationResult;
 use state::normalize::Normalized;
 use state::normalize::Normalizing;
 ghost use mathlib.Core.Path.{_≡_};
 ghost use Rattle.state.specs.Normalizing.{wouldOverflow};
-ghost use Rattle.host.specs.Layout.{stateIn};
-ghost use Rattle.exports.specs.Limbs.{normalizedBy, lent, codeOf, bitOf, laidOut};
+ghost use Rattle.host.specs.Layout.{stateIn, written};
+ghost use Rattle.host.specs.Answer.{ANSWER_BYTES};
+ghost use Rattle.exports.specs.Limbs.{normalizedBy, lent, codeOf, bitOf, beforeBytes, afterBytes, carryBytes, laidOut};
 
 fn code_of(n: Normalizing) -> u64
     ensures { λ r. ⌜ r ≡ codeOf n ⌝ }
@@ -46,21 +48,30 @@ fn normalized_by(which: u64, s: State, reg: u8, low: u64, high: u64) -> Normaliz
     normalize::normalize_and_write(s, reg, low, high)
 }
 
-fn lay_out(state: &mut [u8], before: &mut [u8], after: &mut [u8], carries: &mut [u8], n: Normalized)
-    ensures { λ _. ⌜ lent (now (state .exit)) (now (before .exit)) (now (after .exit)) (now (carries .exit)) ≡ laidOut n (lent (now (state .entry)) (now (before .entry)) (now (after .entry)) (now (carries .entry))) ⌝ }
+// The code and the limbs before.
+fn put_before(bytes: &mut [u8], answer: Normalizing, r: NormalizationResult)
+    ensures { λ _. ⌜ now (bytes .exit) ≡ written ANSWER_BYTES (beforeBytes answer r) (now (bytes .entry)) ⌝ }
 {
-    let s = n.state;
-    let answer = n.answer;
-    let result = n.result;
-    let from = result.accumulated;
-    let to = result.normalized;
-    let over = result.carries;
-    let any = bit_of(normalize::has_carries(result));
-    let total = normalize::total_carry(result);
-    write_state(state, s);
-    write_answer(before, code_of(answer), from[0], from[1]);
-    write_answer(after, wide(to[0]), wide(to[1]), any);
-    write_answer(carries, wide(over[0]), wide(over[1]), total);
+    let limbs = r.accumulated;
+    write_answer(bytes, code_of(answer), limbs[0], limbs[1]);
+}
+
+// The limbs after, and whether there are carries.
+fn put_after(bytes: &mut [u8], r: NormalizationResult)
+    ensures { λ _. ⌜ now (bytes .exit) ≡ written ANSWER_BYTES (afterBytes r) (now (bytes .entry)) ⌝ }
+{
+    let limbs = r.normalized;
+    let any = bit_of(normalize::has_carries(r));
+    write_answer(bytes, wide(limbs[0]), wide(limbs[1]), any);
+}
+
+// The carries and their total.
+fn put_carries(bytes: &mut [u8], r: NormalizationResult)
+    ensures { λ _. ⌜ now (bytes .exit) ≡ written ANSWER_BYTES (carryBytes r) (now (bytes .entry)) ⌝ }
+{
+    let carries = r.carries;
+    let total = normalize::total_carry(r);
+    write_answer(bytes, wide(carries[0]), wide(carries[1]), total);
 }
 
 #[no_mangle]
@@ -77,7 +88,13 @@ pub extern "C" fn oracle_normalize(
     ensures { λ _. ⌜ lent (now (state .exit)) (now (before .exit)) (now (after .exit)) (now (carries .exit)) ≡ laidOut (normalizedBy which (stateIn (now (state .entry))) reg low high) (lent (now (state .entry)) (now (before .entry)) (now (after .entry)) (now (carries .entry))) ⌝ }
 {
     let n = normalized_by(which, read_state(state), reg, low, high);
-    lay_out(state, before, after, carries, n);
+    let answer = n.answer;
+    let result = n.result;
+    let s = n.state;
+    write_state(state, s);
+    put_before(before, answer, result);
+    put_after(after, result);
+    put_carries(carries, result);
 }
 
 #[no_mangle]

@@ -7,6 +7,7 @@ use execute::Went;
 use host::answer::write_answer;
 use host::layout::read_state;
 use host::layout::write_state;
+use refusal::Stop;
 use run::Ran;
 use state::State;
 ghost use mathlib.Core.Path.{_≡_};
@@ -17,11 +18,11 @@ ghost use Rattle.effect.specs.Notes.{documentNotes};
 ghost use Rattle.run.specs.Pending.{lists};
 ghost use Rattle.run.specs.Step.{documentRules, step};
 ghost use Rattle.run.specs.Run.{run, ran};
-ghost use Rattle.host.specs.Layout.{stateIn, written};
+ghost use Rattle.host.specs.Layout.{STATE_BYTES, stateBytes, stateIn, written};
 ghost use Rattle.host.specs.Answer.{ANSWER_BYTES};
 ghost use Rattle.host.specs.Call.{modeOf};
 ghost use Rattle.exports.specs.Coding.{givenOf};
-ghost use Rattle.exports.specs.Machine.{wentCode, wentParticular, checkBytes, given, executedIn, lent, steppedIn, ranIn};
+ghost use Rattle.exports.specs.Machine.{wentCode, wentParticular, wentBytes, stopBytes, checkBytes, given, executedIn, lent, steppedIn, ranIn};
 
 fn mode_of(n: u64) -> Mode
     ensures { λ r. ⌜ r ≡ modeOf n ⌝ }
@@ -63,6 +64,27 @@ fn write_check(bytes: &mut [u8], check: Check)
     }
 }
 
+// The state after, and how a step went: code, 0, particular.
+fn leave_step(state: &mut [u8], answer: &mut [u8], after: State, went: Went)
+    ensures { λ _. ⌜ (now (state .exit) ≡ written STATE_BYTES (stateBytes after) (now (state .entry))) × (now (answer .exit) ≡ written ANSWER_BYTES (wentBytes went) (now (answer .entry))) ⌝ }
+{
+    write_state(state, after);
+    write_answer(answer, code_of(went), 0, particular_of(went));
+}
+
+// The state after, and how a run stopped: code, steps, particular.
+fn leave_run(state: &mut [u8], answer: &mut [u8], after: State, stop: Stop, steps: u64)
+    ensures { λ _. ⌜ (now (state .exit) ≡ written STATE_BYTES (stateBytes after) (now (state .entry))) × (now (answer .exit) ≡ written ANSWER_BYTES (stopBytes stop steps) (now (answer .entry))) ⌝ }
+{
+    write_state(state, after);
+    write_answer(
+        answer,
+        refusal::code(stop),
+        steps,
+        refusal::particular_at(stop),
+    );
+}
+
 #[no_mangle]
 pub extern "C" fn oracle_execute(
     state: &mut [u8],
@@ -83,8 +105,7 @@ pub extern "C" fn oracle_execute(
     let went = r.went;
     let asked = r.check;
     let after = r.state;
-    write_state(state, after);
-    write_answer(answer, code_of(went), 0, particular_of(went));
+    leave_step(state, answer, after, went);
     write_check(check, asked);
 }
 
@@ -112,8 +133,7 @@ pub extern "C" fn oracle_step(
     );
     let went = r.went;
     let after = r.state;
-    write_state(state, after);
-    write_answer(answer, code_of(went), 0, particular_of(went));
+    leave_step(state, answer, after, went);
     r.count
 }
 
@@ -161,12 +181,6 @@ pub extern "C" fn oracle_run(
     );
     let stop = r.stop;
     let after = r.state;
-    write_state(state, after);
-    write_answer(
-        answer,
-        refusal::code(stop),
-        r.steps,
-        refusal::particular_at(stop),
-    );
+    leave_run(state, answer, after, stop, r.steps);
     r.count
 }

@@ -1,3 +1,4 @@
+use Rattle.exports.proofs.Leaving.{execute-left}
 use borrow.Author.Needs.{needs}
 use Rattle.exports.proofs.machine.oracle_execute.Statement.{statement}
 use Rattle.exports.proofs.machine.oracle_execute.Tie as tie
@@ -14,17 +15,8 @@ read-state-requires c κs = search needs
 execute-requires : tie.Need-execute-requires
 execute-requires c κs = search needs
 
-write-state-requires : tie.Need-write-state-requires
-write-state-requires c κs = search needs
-
-code-of-requires : tie.Need-code-of-requires
-code-of-requires c κs = search needs
-
-particular-of-requires : tie.Need-particular-of-requires
-particular-of-requires c κs = search needs
-
-write-answer-requires : tie.Need-write-answer-requires
-write-answer-requires c κs = search needs
+leave-step-requires : tie.Need-leave-step-requires
+leave-step-requires c κs = search needs
 
 write-check-requires : tie.Need-write-check-requires
 write-check-requires c κs = search needs
@@ -42,7 +34,7 @@ same-length-4 : tie.Need-same-length-4
 same-length-4 c = search needs
 
 returns : tie.Need-returns
-returns c = rw (c .before .before .write-check .ensures, c .before .before .before .before .before .before .write-answer .ensures, c .before .before .before .before .before .before .before .particular-of .ensures, c .before .before .before .before .before .before .before .before .code-of .ensures, c .before .before .before .before .before .before .before .before .before .before .before .before .write-state .ensures, ← c .before .before .before .before .before .before .before .before .before .before .before .before .before .before .before .before .before .before .before .read-state .ensures, ← c .before .before .before .before .before .before .before .before .before .before .before .before .before .before .before .before .before .before .before .before .before .mode-of .ensures, ← c .before .before .before .before .before .before .before .before .before .before .before .before .before .before .before .before .before .before .before .before .before .before .given .ensures, ← c .before .before .before .before .before .before .before .before .before .before .before .before .before .before .before .before .before .execute .ensures)
+returns c = execute-left _ _ _ _ _ _ _ _ _ _ _ _ _ (c .before .before .before .before .before .before .before .before .before .before .before .before .before .before .before .before .before .before .mode-of .ensures) (c .before .before .before .before .before .before .before .before .before .before .before .before .before .before .before .before .read-state .ensures) (c .before .before .before .before .before .before .before .before .before .before .before .before .before .before .before .before .before .before .before .given .ensures) (c .before .before .before .before .before .before .before .before .before .before .before .before .before .before .execute .ensures) (c .before .before .before .before .before .before .before .before .leave-step .ensures .0) (c .before .before .before .before .before .before .before .before .leave-step .ensures .1) (c .before .before .write-check .ensures)
 
 pub oracle-execute-spec : {M : Type 1} → statement M
 oracle-execute-spec =
@@ -52,10 +44,7 @@ oracle-execute-spec =
     mode-of-requires
     read-state-requires
     execute-requires
-    write-state-requires
-    code-of-requires
-    particular-of-requires
-    write-answer-requires
+    leave-step-requires
     write-check-requires
     same-length
     same-length-2

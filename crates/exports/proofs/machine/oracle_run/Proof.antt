@@ -1,3 +1,4 @@
+use Rattle.exports.proofs.Leaving.{run-left}
 use borrow.Author.Needs.{needs}
 use Rattle.exports.proofs.machine.oracle_run.Statement.{statement}
 use Rattle.exports.proofs.machine.oracle_run.Tie as tie
@@ -8,17 +9,8 @@ read-state-requires c κs = search needs
 run-by-requires : tie.Need-run-by-requires
 run-by-requires c κs = search needs
 
-write-state-requires : tie.Need-write-state-requires
-write-state-requires c κs = search needs
-
-code-requires : tie.Need-code-requires
-code-requires c κs = search needs
-
-particular-at-requires : tie.Need-particular-at-requires
-particular-at-requires c κs = search needs
-
-write-answer-requires : tie.Need-write-answer-requires
-write-answer-requires c κs = search needs
+leave-run-requires : tie.Need-leave-run-requires
+leave-run-requires c κs = search needs
 
 same-length : tie.Need-same-length
 same-length c = search needs
@@ -39,7 +31,7 @@ same-length-6 : tie.Need-same-length-6
 same-length-6 c = search needs
 
 returns : tie.Need-returns
-returns c = rw (c .before .before .write-answer .ensures, c .before .before .before .particular-at .ensures, c .before .before .before .before .code .ensures, c .before .before .before .before .before .before .before .before .write-state .ensures, ← c .before .before .before .before .before .before .before .before .before .before .before .before .before .before .before .before .before .before .before .before .before .before .before .before .read-state .ensures, ← c .before .before .before .before .before .before .before .before .before .before .before .before .before .before .before .before .before .before .before .run-by .ensures)
+returns c = run-left _ _ _ _ _ _ _ _ _ _ (c .before .before .before .before .before .before .before .before .before .before .before .before .before .before .before .before .before .before .before .before .before .read-state .ensures) (c .before .before .before .before .before .before .before .before .before .before .before .before .before .before .before .before .run-by .ensures) (c .before .before .before .before .leave-run .ensures .0) (c .before .before .before .before .leave-run .ensures .1)
 
 pub oracle-run-spec : {M : Type 1} → statement M
 oracle-run-spec =
@@ -47,10 +39,7 @@ oracle-run-spec =
     (tie.spec
     read-state-requires
     run-by-requires
-    write-state-requires
-    code-requires
-    particular-at-requires
-    write-answer-requires
+    leave-run-requires
     same-length
     same-length-2
     same-length-3

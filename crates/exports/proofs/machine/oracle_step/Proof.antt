@@ -1,3 +1,4 @@
+use Rattle.exports.proofs.Leaving.{step-left}
 use borrow.Author.Needs.{needs}
 use Rattle.exports.proofs.machine.oracle_step.Statement.{statement}
 use Rattle.exports.proofs.machine.oracle_step.Tie as tie
@@ -11,17 +12,8 @@ read-state-requires c κs = search needs
 step-requires : tie.Need-step-requires
 step-requires c κs = search needs
 
-write-state-requires : tie.Need-write-state-requires
-write-state-requires c κs = search needs
-
-code-of-requires : tie.Need-code-of-requires
-code-of-requires c κs = search needs
-
-particular-of-requires : tie.Need-particular-of-requires
-particular-of-requires c κs = search needs
-
-write-answer-requires : tie.Need-write-answer-requires
-write-answer-requires c κs = search needs
+leave-step-requires : tie.Need-leave-step-requires
+leave-step-requires c κs = search needs
 
 same-length : tie.Need-same-length
 same-length c = search needs
@@ -42,7 +34,7 @@ same-length-6 : tie.Need-same-length-6
 same-length-6 c = search needs
 
 returns : tie.Need-returns
-returns c = rw (c .before .before .write-answer .ensures, c .before .before .before .particular-of .ensures, c .before .before .before .before .code-of .ensures, c .before .before .before .before .before .before .before .before .write-state .ensures, ← c .before .before .before .before .before .before .before .before .before .before .before .before .before .before .before .before .before .before .before .before .before .before .before .before .read-state .ensures, ← c .before .before .before .before .before .before .before .before .before .before .before .before .before .before .before .before .before .before .before .before .before .before .before .before .before .before .mode-of .ensures, ← c .before .before .before .before .before .before .before .before .before .before .before .before .before .before .before .before .before .before .before .step .ensures)
+returns c = step-left _ _ _ _ _ _ _ _ _ _ (c .before .before .before .before .before .before .before .before .before .before .before .before .before .before .before .before .before .before .before .before .before .before .before .mode-of .ensures) (c .before .before .before .before .before .before .before .before .before .before .before .before .before .before .before .before .before .before .before .before .before .read-state .ensures) (c .before .before .before .before .before .before .before .before .before .before .before .before .before .before .before .before .step .ensures) (c .before .before .before .before .leave-step .ensures .0) (c .before .before .before .before .leave-step .ensures .1)
 
 pub oracle-step-spec : {M : Type 1} → statement M
 oracle-step-spec =
@@ -51,10 +43,7 @@ oracle-step-spec =
     mode-of-requires
     read-state-requires
     step-requires
-    write-state-requires
-    code-of-requires
-    particular-of-requires
-    write-answer-requires
+    leave-step-requires
     same-length
     same-length-2
     same-length-3

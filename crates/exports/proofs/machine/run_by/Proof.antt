@@ -1,5 +1,4 @@
-use borrow.Author.Tests.{eq-eqb, ne-eqb}
-use Rattle.host.specs.Call.{modeOf}
+use Rattle.exports.proofs.Leaving.{plain-mode, deferred-mode, run-in}
 use borrow.Author.Needs.{needs}
 use Rattle.exports.proofs.machine.run_by.Statement.{statement}
 use Rattle.exports.proofs.machine.run_by.Tie as tie
@@ -20,8 +19,7 @@ same-length-4 : tie.Need-same-length-4
 same-length-4 c = search needs
 
 returns : tie.Need-returns
-unfolding modeOf
-returns c = rw (eq-eqb (c .before .before .before .before .before .before .before .before .before .before .before .before .before .before .before .before .before .before .args .mode) 0 (c .before .before .before .before .before .before .before .before .before .before .before .before .before .if1 .taken)) (c .before .before .before .before .before .before .before .before .run-plain .ensures)
+returns c = run-in _ _ _ _ _ _ (plain-mode _ (c .before .before .before .before .before .before .before .before .before .before .before .before .before .if1 .taken)) (c .before .before .before .before .before .before .before .before .run-plain .ensures)
 
 run-deferred-requires : tie.Need-run-deferred-requires
 run-deferred-requires c κs = search needs
@@ -39,8 +37,7 @@ same-length-8 : tie.Need-same-length-8
 same-length-8 c = search needs
 
 returns-2 : tie.Need-returns-2
-unfolding modeOf
-returns-2 c = rw (ne-eqb (c .before .before .before .before .before .before .before .before .before .before .before .before .before .before .before .before .before .before .args .mode) 0 (c .before .before .before .before .before .before .before .before .before .before .before .before .before .if1 .left)) (c .before .before .before .before .before .before .before .before .run-deferred .ensures)
+returns-2 c = run-in _ _ _ _ _ _ (deferred-mode _ (c .before .before .before .before .before .before .before .before .before .before .before .before .before .if1 .left)) (c .before .before .before .before .before .before .before .before .run-deferred .ensures)
 
 pub run-by-spec : {M : Type 1} → statement M
 run-by-spec =

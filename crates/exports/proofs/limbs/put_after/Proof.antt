@@ -1,0 +1,44 @@
+use borrow.Author.Needs.{needs}
+use Rattle.exports.proofs.limbs.put_after.Statement.{statement}
+use Rattle.exports.proofs.limbs.put_after.Tie as tie
+
+has-carries-requires : tie.Need-has-carries-requires
+has-carries-requires c κs = search needs
+
+bit-of-requires : tie.Need-bit-of-requires
+bit-of-requires c κs = search needs
+
+array-read-wide : tie.Need-array-read-wide
+array-read-wide c = search needs
+
+wide-requires : tie.Need-wide-requires
+wide-requires c κs = search needs
+
+array-read-wide-2 : tie.Need-array-read-wide-2
+array-read-wide-2 c = search needs
+
+wide-requires-2 : tie.Need-wide-requires-2
+wide-requires-2 c κs = search needs
+
+write-answer-requires : tie.Need-write-answer-requires
+write-answer-requires c κs = search needs
+
+same-length : tie.Need-same-length
+same-length c = search needs
+
+returns : tie.Need-returns
+returns c = rw (c .before .before .write-answer .ensures, c .before .before .before .wide2 .ensures, c .before .before .before .before .wide .ensures, c .before .before .before .before .before .before .bit-of .ensures, c .before .before .before .before .before .before .before .has-carries .ensures)
+
+pub put-after-spec : {M : Type 1} → statement M
+put-after-spec =
+    tie.close
+    (tie.spec
+    has-carries-requires
+    bit-of-requires
+    array-read-wide
+    wide-requires
+    array-read-wide-2
+    wide-requires-2
+    write-answer-requires
+    same-length
+    returns)

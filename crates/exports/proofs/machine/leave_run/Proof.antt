@@ -1,0 +1,36 @@
+use borrow.Author.Needs.{needs}
+use Rattle.exports.proofs.machine.leave_run.Statement.{statement}
+use Rattle.exports.proofs.machine.leave_run.Tie as tie
+
+write-state-requires : tie.Need-write-state-requires
+write-state-requires c κs = search needs
+
+code-requires : tie.Need-code-requires
+code-requires c κs = search needs
+
+particular-at-requires : tie.Need-particular-at-requires
+particular-at-requires c κs = search needs
+
+write-answer-requires : tie.Need-write-answer-requires
+write-answer-requires c κs = search needs
+
+same-length : tie.Need-same-length
+same-length c = search needs
+
+same-length-2 : tie.Need-same-length-2
+same-length-2 c = search needs
+
+returns : tie.Need-returns
+returns c = (c .before .before .before .before .before .before .before .before .write-state .ensures, rw (c .before .before .write-answer .ensures, c .before .before .before .particular-at .ensures, c .before .before .before .before .code .ensures))
+
+pub leave-run-spec : {M : Type 1} → statement M
+leave-run-spec =
+    tie.close
+    (tie.spec
+    write-state-requires
+    code-requires
+    particular-at-requires
+    write-answer-requires
+    same-length
+    same-length-2
+    returns)
