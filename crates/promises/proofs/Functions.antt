@@ -14,6 +14,7 @@ use Rattle.effect.proofs as effect
 use Rattle.execute.proofs as execute
 use Rattle.run.proofs as run
 use Rattle.host.proofs as host
+use Rattle.exports.proofs as exports
 use Rattle.checks.proofs as checks
 use Rattle.lent.proofs as lent
 use Rattle.state.specs.Registers.{Registers}
@@ -23,10 +24,10 @@ use Rattle.run.specs.Step.{Left}
 use Rattle.run.specs.Run.{Answer}
 use Rattle.run.specs.Leg.{Leg}
 use Rattle.host.specs.Call.{Called, stateOf}
-use Rattle.lent.specs.Lent as Lent
+use Rattle.exports.specs.Machine.{Given}
 use Rattle.promises.specs.Determined.{Determined}
 use Rattle.promises.proofs.Laws.{one, two, _&_}
-use Rattle.promises.proofs.Regrouped.{advanceOf, executedOf, oneStepOf, ranOf, goneOf, outcomeOf, records-one}
+use Rattle.promises.proofs.Regrouped.{advanceOf, executedOf, oneStepOf, ranOf, goneOf, outcomeOf, LimbsLeft, MachineLeft, RecordLeft, records-one}
 
 -- ---- encoding
 pub encoding·fields·extract-opcode : Determined encoding.fields.extract_opcode.ended encoding.fields.extract_opcode.Reads.Learnt
@@ -391,6 +392,205 @@ host·layout·is-admissible κs a x y = one (λ r. r & x .1)
 pub host·zkir-run : Determined host.zkir_run.ended host.zkir_run.Reads.Learnt
 host·zkir-run κs a x y = one (λ (c : Called). c .code & c .state & c .memory & c .answer & x .1 .1 .1 .1)
 
+-- ---- exports
+pub exports·bounds·oracle-bound-from-constant : Determined exports.bounds.oracle_bound_from_constant.ended exports.bounds.oracle_bound_from_constant.Reads.Learnt
+exports·bounds·oracle-bound-from-constant κs a x y = one (λ r. r & x .1)
+
+pub exports·bounds·oracle-bound-after-add : Determined exports.bounds.oracle_bound_after_add.ended exports.bounds.oracle_bound_after_add.Reads.Learnt
+exports·bounds·oracle-bound-after-add κs a x y = one (λ r. r & x .1)
+
+pub exports·bounds·oracle-bound-after-sub : Determined exports.bounds.oracle_bound_after_sub.ended exports.bounds.oracle_bound_after_sub.Reads.Learnt
+exports·bounds·oracle-bound-after-sub κs a x y = one (λ r. r & x .1)
+
+pub exports·bounds·oracle-bound-after-mul : Determined exports.bounds.oracle_bound_after_mul.ended exports.bounds.oracle_bound_after_mul.Reads.Learnt
+exports·bounds·oracle-bound-after-mul κs a x y = one (λ r. r & x .1)
+
+pub exports·bounds·oracle-bound-after-and : Determined exports.bounds.oracle_bound_after_and.ended exports.bounds.oracle_bound_after_and.Reads.Learnt
+exports·bounds·oracle-bound-after-and κs a x y = one (λ r. r & x .1)
+
+pub exports·bounds·oracle-bound-after-move : Determined exports.bounds.oracle_bound_after_move.ended exports.bounds.oracle_bound_after_move.Reads.Learnt
+exports·bounds·oracle-bound-after-move κs a x y = one (λ r. r & x .1)
+
+pub exports·bounds·oracle-bound-after-div : Determined exports.bounds.oracle_bound_after_div.ended exports.bounds.oracle_bound_after_div.Reads.Learnt
+exports·bounds·oracle-bound-after-div κs a x y = one (λ r. r & x .1)
+
+pub exports·bounds·oracle-bound-after-shl : Determined exports.bounds.oracle_bound_after_shl.ended exports.bounds.oracle_bound_after_shl.Reads.Learnt
+exports·bounds·oracle-bound-after-shl κs a x y = one (λ r. r & x .1)
+
+pub exports·bounds·oracle-bound-after-srl : Determined exports.bounds.oracle_bound_after_srl.ended exports.bounds.oracle_bound_after_srl.Reads.Learnt
+exports·bounds·oracle-bound-after-srl κs a x y = one (λ r. r & x .1)
+
+pub exports·bounds·oracle-bound-after-sra : Determined exports.bounds.oracle_bound_after_sra.ended exports.bounds.oracle_bound_after_sra.Reads.Learnt
+exports·bounds·oracle-bound-after-sra κs a x y = one (λ r. r & x .1)
+
+pub exports·bounds·oracle-bound-after-cmp : Determined exports.bounds.oracle_bound_after_cmp.ended exports.bounds.oracle_bound_after_cmp.Reads.Learnt
+exports·bounds·oracle-bound-after-cmp κs a x y = one (λ r. r & x .1)
+
+pub exports·bounds·oracle-bound-after-load : Determined exports.bounds.oracle_bound_after_load.ended exports.bounds.oracle_bound_after_load.Reads.Learnt
+exports·bounds·oracle-bound-after-load κs a x y = one (λ r. r & x .1)
+
+pub exports·bounds·oracle-bound-needs-check : Determined exports.bounds.oracle_bound_needs_check.ended exports.bounds.oracle_bound_needs_check.Reads.Learnt
+exports·bounds·oracle-bound-needs-check κs a x y = one (λ r. r & x .1)
+
+pub exports·coding·oracle-decode : Determined exports.coding.oracle_decode.ended exports.coding.oracle_decode.Reads.Learnt
+exports·coding·oracle-decode κs a x y = one (λ m. tt & m & x .1 .1)
+
+pub exports·coding·oracle-encode : Determined exports.coding.oracle_encode.ended exports.coding.oracle_encode.Reads.Learnt
+exports·coding·oracle-encode κs a x y = one (λ r. r & x .1)
+
+pub exports·limbs·oracle-normalize : Determined exports.limbs.oracle_normalize.ended exports.limbs.oracle_normalize.Reads.Learnt
+exports·limbs·oracle-normalize κs a x y = one (λ (l : LimbsLeft). tt & l .state & l .before & l .after & l .carries & x .1 .1 .1 .1 .1)
+
+pub exports·limbs·oracle-would-overflow : Determined exports.limbs.oracle_would_overflow.ended exports.limbs.oracle_would_overflow.Reads.Learnt
+exports·limbs·oracle-would-overflow κs a x y = one (λ r. r & x .1)
+
+pub exports·lists·oracle-append : Determined exports.lists.oracle_append.ended exports.lists.oracle_append.Reads.Learnt
+exports·lists·oracle-append κs a x y = two (λ m (l : Lists). tt & m & l .values & l .bounds & l .pcs & x .1 .1 .1 .1 .1)
+
+pub exports·lists·oracle-empty : Determined exports.lists.oracle_empty.ended exports.lists.oracle_empty.Reads.Learnt
+exports·lists·oracle-empty κs a x y = one (λ (l : Lists). l .count & l .values & l .bounds & l .pcs & x .1 .1 .1 .1)
+
+pub exports·lists·oracle-read : Determined exports.lists.oracle_read.ended exports.lists.oracle_read.Reads.Learnt
+exports·lists·oracle-read κs a x y = one (λ m. tt & m & x .1 .1)
+
+pub exports·machine·oracle-execute : Determined exports.machine.oracle_execute.ended exports.machine.oracle_execute.Reads.Learnt
+exports·machine·oracle-execute κs a x y = one (λ (g : Given). tt & g .state & g .memory & g .answer & g .check & x .1 .1 .1 .1 .1)
+
+pub exports·machine·oracle-step : Determined exports.machine.oracle_step.ended exports.machine.oracle_step.Reads.Learnt
+exports·machine·oracle-step κs a x y = one (λ (l : MachineLeft). l .lists .count & l .state & l .memory & l .answer & l .lists .values & l .lists .bounds & l .lists .pcs & x .1 .1 .1 .1 .1 .1 .1)
+
+pub exports·machine·oracle-run : Determined exports.machine.oracle_run.ended exports.machine.oracle_run.Reads.Learnt
+exports·machine·oracle-run κs a x y = one (λ (l : MachineLeft). l .lists .count & l .state & l .memory & l .answer & l .lists .values & l .lists .bounds & l .lists .pcs & x .1 .1 .1 .1 .1 .1 .1)
+
+pub exports·values·oracle-value-add : Determined exports.values.oracle_value_add.ended exports.values.oracle_value_add.Reads.Learnt
+exports·values·oracle-value-add κs a x y = one (λ r. r & x .1)
+
+pub exports·values·oracle-value-sub : Determined exports.values.oracle_value_sub.ended exports.values.oracle_value_sub.Reads.Learnt
+exports·values·oracle-value-sub κs a x y = one (λ r. r & x .1)
+
+pub exports·values·oracle-value-mul : Determined exports.values.oracle_value_mul.ended exports.values.oracle_value_mul.Reads.Learnt
+exports·values·oracle-value-mul κs a x y = one (λ r. r & x .1)
+
+pub exports·values·oracle-value-and : Determined exports.values.oracle_value_and.ended exports.values.oracle_value_and.Reads.Learnt
+exports·values·oracle-value-and κs a x y = one (λ r. r & x .1)
+
+pub exports·values·oracle-value-or : Determined exports.values.oracle_value_or.ended exports.values.oracle_value_or.Reads.Learnt
+exports·values·oracle-value-or κs a x y = one (λ r. r & x .1)
+
+pub exports·values·oracle-value-xor : Determined exports.values.oracle_value_xor.ended exports.values.oracle_value_xor.Reads.Learnt
+exports·values·oracle-value-xor κs a x y = one (λ r. r & x .1)
+
+pub exports·values·oracle-value-shl : Determined exports.values.oracle_value_shl.ended exports.values.oracle_value_shl.Reads.Learnt
+exports·values·oracle-value-shl κs a x y = one (λ r. r & x .1)
+
+pub exports·values·oracle-value-shr : Determined exports.values.oracle_value_shr.ended exports.values.oracle_value_shr.Reads.Learnt
+exports·values·oracle-value-shr κs a x y = one (λ r. r & x .1)
+
+pub exports·values·oracle-value-sra : Determined exports.values.oracle_value_sra.ended exports.values.oracle_value_sra.Reads.Learnt
+exports·values·oracle-value-sra κs a x y = one (λ r. r & x .1)
+
+pub exports·values·oracle-value-slt : Determined exports.values.oracle_value_slt.ended exports.values.oracle_value_slt.Reads.Learnt
+exports·values·oracle-value-slt κs a x y = one (λ r. r & x .1)
+
+pub exports·values·oracle-value-ult : Determined exports.values.oracle_value_ult.ended exports.values.oracle_value_ult.Reads.Learnt
+exports·values·oracle-value-ult κs a x y = one (λ r. r & x .1)
+
+pub exports·values·oracle-value-mulh : Determined exports.values.oracle_value_mulh.ended exports.values.oracle_value_mulh.Reads.Learnt
+exports·values·oracle-value-mulh κs a x y = one (λ r. r & x .1)
+
+pub exports·values·oracle-value-div : Determined exports.values.oracle_value_div.ended exports.values.oracle_value_div.Reads.Learnt
+exports·values·oracle-value-div κs a x y = one (λ r. r & x .1)
+
+pub exports·values·oracle-value-rem : Determined exports.values.oracle_value_rem.ended exports.values.oracle_value_rem.Reads.Learnt
+exports·values·oracle-value-rem κs a x y = one (λ r. r & x .1)
+
+pub exports·values·oracle-value-divu : Determined exports.values.oracle_value_divu.ended exports.values.oracle_value_divu.Reads.Learnt
+exports·values·oracle-value-divu κs a x y = one (λ r. r & x .1)
+
+pub exports·values·oracle-value-remu : Determined exports.values.oracle_value_remu.ended exports.values.oracle_value_remu.Reads.Learnt
+exports·values·oracle-value-remu κs a x y = one (λ r. r & x .1)
+
+pub exports·values·oracle-value-extend-8 : Determined exports.values.oracle_value_extend_8.ended exports.values.oracle_value_extend_8.Reads.Learnt
+exports·values·oracle-value-extend-8 κs a x y = one (λ r. r & x .1)
+
+pub exports·values·oracle-value-extend-16 : Determined exports.values.oracle_value_extend_16.ended exports.values.oracle_value_extend_16.Reads.Learnt
+exports·values·oracle-value-extend-16 κs a x y = one (λ r. r & x .1)
+
+pub exports·values·oracle-value-extend-17 : Determined exports.values.oracle_value_extend_17.ended exports.values.oracle_value_extend_17.Reads.Learnt
+exports·values·oracle-value-extend-17 κs a x y = one (λ r. r & x .1)
+
+pub exports·values·oracle-value-extend-21 : Determined exports.values.oracle_value_extend_21.ended exports.values.oracle_value_extend_21.Reads.Learnt
+exports·values·oracle-value-extend-21 κs a x y = one (λ r. r & x .1)
+
+pub exports·values·oracle-value-plus : Determined exports.values.oracle_value_plus.ended exports.values.oracle_value_plus.Reads.Learnt
+exports·values·oracle-value-plus κs a x y = one (λ r. r & x .1)
+
+pub exports·words·oracle-extract-opcode : Determined exports.words.oracle_extract_opcode.ended exports.words.oracle_extract_opcode.Reads.Learnt
+exports·words·oracle-extract-opcode κs a x y = one (λ r. r & x .1)
+
+pub exports·words·oracle-extract-rd : Determined exports.words.oracle_extract_rd.ended exports.words.oracle_extract_rd.Reads.Learnt
+exports·words·oracle-extract-rd κs a x y = one (λ r. r & x .1)
+
+pub exports·words·oracle-extract-rs1 : Determined exports.words.oracle_extract_rs1.ended exports.words.oracle_extract_rs1.Reads.Learnt
+exports·words·oracle-extract-rs1 κs a x y = one (λ r. r & x .1)
+
+pub exports·words·oracle-extract-rs2 : Determined exports.words.oracle_extract_rs2.ended exports.words.oracle_extract_rs2.Reads.Learnt
+exports·words·oracle-extract-rs2 κs a x y = one (λ r. r & x .1)
+
+pub exports·words·oracle-extract-funct : Determined exports.words.oracle_extract_funct.ended exports.words.oracle_extract_funct.Reads.Learnt
+exports·words·oracle-extract-funct κs a x y = one (λ r. r & x .1)
+
+pub exports·words·oracle-extract-imm : Determined exports.words.oracle_extract_imm.ended exports.words.oracle_extract_imm.Reads.Learnt
+exports·words·oracle-extract-imm κs a x y = one (λ r. r & x .1)
+
+pub exports·words·oracle-extract-offset : Determined exports.words.oracle_extract_offset.ended exports.words.oracle_extract_offset.Reads.Learnt
+exports·words·oracle-extract-offset κs a x y = one (λ r. r & x .1)
+
+pub exports·words·oracle-extract-stype-rs1 : Determined exports.words.oracle_extract_stype_rs1.ended exports.words.oracle_extract_stype_rs1.Reads.Learnt
+exports·words·oracle-extract-stype-rs1 κs a x y = one (λ r. r & x .1)
+
+pub exports·words·oracle-extract-stype-rs2 : Determined exports.words.oracle_extract_stype_rs2.ended exports.words.oracle_extract_stype_rs2.Reads.Learnt
+exports·words·oracle-extract-stype-rs2 κs a x y = one (λ r. r & x .1)
+
+pub exports·words·oracle-extract-stype-imm : Determined exports.words.oracle_extract_stype_imm.ended exports.words.oracle_extract_stype_imm.Reads.Learnt
+exports·words·oracle-extract-stype-imm κs a x y = one (λ r. r & x .1)
+
+pub exports·words·oracle-extract-imm-signed : Determined exports.words.oracle_extract_imm_signed.ended exports.words.oracle_extract_imm_signed.Reads.Learnt
+exports·words·oracle-extract-imm-signed κs a x y = one (λ r. r & x .1)
+
+pub exports·words·oracle-extract-offset-signed : Determined exports.words.oracle_extract_offset_signed.ended exports.words.oracle_extract_offset_signed.Reads.Learnt
+exports·words·oracle-extract-offset-signed κs a x y = one (λ r. r & x .1)
+
+pub exports·words·oracle-is-rtype : Determined exports.words.oracle_is_rtype.ended exports.words.oracle_is_rtype.Reads.Learnt
+exports·words·oracle-is-rtype κs a x y = one (λ r. r & x .1)
+
+pub exports·words·oracle-is-itype : Determined exports.words.oracle_is_itype.ended exports.words.oracle_is_itype.Reads.Learnt
+exports·words·oracle-is-itype κs a x y = one (λ r. r & x .1)
+
+pub exports·words·oracle-is-stype : Determined exports.words.oracle_is_stype.ended exports.words.oracle_is_stype.Reads.Learnt
+exports·words·oracle-is-stype κs a x y = one (λ r. r & x .1)
+
+pub exports·words·oracle-is-btype : Determined exports.words.oracle_is_btype.ended exports.words.oracle_is_btype.Reads.Learnt
+exports·words·oracle-is-btype κs a x y = one (λ r. r & x .1)
+
+pub exports·words·oracle-is-jtype : Determined exports.words.oracle_is_jtype.ended exports.words.oracle_is_jtype.Reads.Learnt
+exports·words·oracle-is-jtype κs a x y = one (λ r. r & x .1)
+
+pub exports·words·oracle-encode-rtype : Determined exports.words.oracle_encode_rtype.ended exports.words.oracle_encode_rtype.Reads.Learnt
+exports·words·oracle-encode-rtype κs a x y = one (λ r. r & x .1)
+
+pub exports·words·oracle-encode-itype : Determined exports.words.oracle_encode_itype.ended exports.words.oracle_encode_itype.Reads.Learnt
+exports·words·oracle-encode-itype κs a x y = one (λ r. r & x .1)
+
+pub exports·words·oracle-encode-stype : Determined exports.words.oracle_encode_stype.ended exports.words.oracle_encode_stype.Reads.Learnt
+exports·words·oracle-encode-stype κs a x y = one (λ r. r & x .1)
+
+pub exports·words·oracle-encode-btype : Determined exports.words.oracle_encode_btype.ended exports.words.oracle_encode_btype.Reads.Learnt
+exports·words·oracle-encode-btype κs a x y = one (λ r. r & x .1)
+
+pub exports·words·oracle-encode-jtype : Determined exports.words.oracle_encode_jtype.ended exports.words.oracle_encode_jtype.Reads.Learnt
+exports·words·oracle-encode-jtype κs a x y = one (λ r. r & x .1)
+
 -- ---- checks
 pub checks·append : Determined checks.append.ended checks.append.Reads.Learnt
 checks·append κs a x y = λ p q. ap₂ (λ r l. r & l & x .1 .1) (p .0 ∙ sym (q .0)) (records-one (p .1) (q .1))
@@ -412,4 +612,4 @@ pub lent·step-in-place : Determined lent.step_in_place.ended lent.step_in_place
 lent·step-in-place κs a x y = λ p q. ap₂ (λ (s : Left) l. outcomeOf s & stateOf (s .world) & tt & s .world .memory & l & tt & tt) (p ∙ sym q) (records-one (ap (λ (s : Left). s .lists) p) (ap (λ (s : Left). s .lists) q))
 
 pub lent·exported·zkir-step : Determined lent.exported.zkir_step.ended lent.exported.zkir_step.Reads.Learnt
-lent·exported·zkir-step κs a x y = λ p q. ap₂ (λ (s : Lent.Stepped) l. s .answer & s .state & s .memory & l & tt & tt & tt) (p ∙ sym q) (records-one (ap (λ (s : Lent.Stepped). s .lists) p) (ap (λ (s : Lent.Stepped). s .lists) q))
+lent·exported·zkir-step κs a x y = λ p q. ap₂ (λ (s : RecordLeft) l. s .answer & s .state & s .memory & l & tt & tt & tt) (p ∙ sym q) (records-one (ap (λ (s : RecordLeft). s .lists) p) (ap (λ (s : RecordLeft). s .lists) q))

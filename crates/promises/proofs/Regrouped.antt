@@ -13,9 +13,12 @@ use Rattle.run.specs.declared.leg.Gone.{Gone}
 use Rattle.run.specs.declared.OneStep.{OneStep}
 use Rattle.run.specs.declared.Ran.{Ran}
 use Rattle.host.specs.Call.{stateOf}
+use Rattle.exports.specs.Limbs as Limbs
+use Rattle.exports.specs.Machine as Machine
 use Rattle.checks.specs.Records.{listed}
 use Rattle.checks.specs.declared.Pending.{Pending}
 use Rattle.checks.proofs.Listed.{listed-injective}
+use Rattle.lent.specs.Lent as Lent
 use Rattle.lent.specs.declared.Outcome.{Outcome}
 
 abbrev pub advanceOf : Stepped → Advance
@@ -35,6 +38,16 @@ goneOf l = record { went = l .went; steps = l .steps; check = l .check; pc = l .
 
 abbrev pub outcomeOf : Left → Outcome
 outcomeOf l = record { went = l .went; count = l .lists .count }
+
+-- those of three crates that go by one name
+abbrev pub LimbsLeft : Type 0
+LimbsLeft = Limbs.Lent
+
+abbrev pub MachineLeft : Type 0
+MachineLeft = Machine.Lent
+
+abbrev pub RecordLeft : Type 0
+RecordLeft = Lent.Stepped
 
 -- the records that hold one thing are one
 pub records-one : {n m : ℕ} {l k : List Pending} {h : Lists} → listed n l ≡ h → listed m k ≡ h → l ≡ k
