@@ -1,6 +1,6 @@
-//! The proved zkIR core for Rust hosts: the state of the machine, and its run with fuel over lent memory.
+//! The proved zkIR core for Rust hosts: the state of the machine, its run with fuel over lent memory, and single steps.
 //!
-//! The run itself is Rattle, proved, and linked as a static library. Here is what makes it comfortable in Rust: types
+//! Run and step are Rattle, proved, and linked as static libraries. Here is what makes them comfortable in Rust: types
 //! that cannot be malformed, and answers that say what happened.
 //!
 //! ```
@@ -25,15 +25,25 @@
 //! ```
 
 mod bytes;
+#[cfg(feature = "step")]
+mod checks;
 mod layout;
 mod malformed;
 pub mod raw;
+mod record;
 mod state;
+#[cfg(feature = "step")]
+mod step;
 mod stop;
 
+#[cfg(feature = "step")]
+pub use checks::Checks;
 pub use layout::{ANSWER_BYTES, REGISTERS, STATE_BYTES};
 pub use malformed::{Malformed, MalformedBytes};
+pub use record::Pending;
 pub use state::{Register, State};
+#[cfg(feature = "step")]
+pub use step::{step, Stepped};
 pub use stop::{Answer, Refusal, Stop};
 
 /// How sums and differences are kept.

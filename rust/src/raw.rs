@@ -1,7 +1,9 @@
 //! The archive's calls, each as a safe function over what it is lent. This is the one place where they are declared in
 //! Rust, and the only unsafe code here.
 
-/// As Rattle's `extern "C"` has them: a slice is a pointer and a length.
+pub use crate::record::{Answer, Lent, Pending};
+
+/// As Rattle's `extern "C"` has them: a slice is a pointer and a length, a record that is lent is a pointer.
 mod archive {
     extern "C" {
         pub fn zkir_run(
@@ -14,6 +16,17 @@ mod archive {
             fuel: u64,
             mode: u64,
         ) -> u64;
+
+        #[cfg(feature = "step")]
+        pub fn zkir_step(
+            state: *mut super::Lent,
+            memory: *mut u8,
+            memory_length: usize,
+            list: *mut super::Pending,
+            list_length: usize,
+            count: usize,
+            mode: u64,
+        ) -> super::Answer;
     }
 }
 
@@ -37,4 +50,15 @@ pub fn run(state: &mut [u8], memory: &mut [u8], answer: &mut [u8], fuel: u64, mo
             mode,
         )
     }
+}
+
+/// `zkir_step` over a record, the memory's bytes, and a list of pending checks, of which the first `count` are in use.
+/// Mode 0 is plain, 1 deferred. An empty list means that none is lent.
+///
+/// Every argument is allowed. One that the rules forbid is refused with code 9. A refused step changes nothing.
+#[cfg(feature = "step")]
+pub fn step(state: &mut Lent, memory: &mut [u8], list: &mut [Pending], count: usize, mode: u64) -> Answer {
+    // SAFETY: the call is proved for any record and any two slices that are lent apart from each other, empty ones too,
+    // and keeps none of them; `&mut` lends them so.
+    unsafe { archive::zkir_step(state, memory.as_mut_ptr(), memory.len(), list.as_mut_ptr(), list.len(), count, mode) }
 }

@@ -20,9 +20,9 @@ pub enum Refusal {
     PcMisaligned { pc: u64 },
     /// The four bytes at the pc reach beyond memory.
     PcBeyond { pc: u64 },
-    /// A check is needed and the list lent for it is full. [`run`](crate::run) lends none, so it never answers this.
+    /// A check is needed and the list lent for it is full. [`run`](crate::run) lends none, so only a step answers this.
     ListFull { pc: u64 },
-    /// An argument is malformed. From [`run`](crate::run): the run is plain and a register is accumulated.
+    /// An argument is malformed. From [`run`](crate::run) or a step: it is plain and a register is accumulated.
     Malformed,
 }
 

@@ -2,7 +2,7 @@
 
 mod common;
 
-use common::Random;
+use common::{any_state, Random};
 use yokeglimmer::{raw, Malformed, MalformedBytes, Register, State, ANSWER_BYTES, STATE_BYTES};
 
 const LIMIT: u64 = 1 << 30;
@@ -129,16 +129,7 @@ fn the_archive_takes_exactly_the_bytes_that_are_a_state() {
 fn generated_states_come_back() {
     let mut random = Random(7);
     for _ in 0..500 {
-        let mut state = State::new(random.draw());
-        state.set_halted(random.below(2) == 1);
-        for n in 1..16 {
-            let register = match random.below(2) {
-                0 => Register::Whole(random.draw()),
-                _ => Register::Accumulated { low: random.below(LIMIT), high: random.below(LIMIT) },
-            };
-            state.set_register(n, register).expect("well-formed");
-            state.set_bound(n, random.below(65) as u8).expect("well-formed");
-        }
+        let state = any_state(&mut random);
         let bytes = state.to_bytes();
         assert_eq!(State::try_from(&bytes[..]), Ok(state));
         assert!(archive_takes(&bytes));

@@ -2,10 +2,8 @@
 
 mod common;
 
-use common::{i, j, memory, r, with_r1, ADD, ADDI, DIV, EBREAK, ECALL, JAL, LW, SLLI, SW};
+use common::{i, j, memory, r, refusals, with_r1, ADD, ADDI, DIV, EBREAK, ECALL, JAL, LW, MODES, SW};
 use yokeglimmer::{run, Answer, Mode, Refusal, Register, State, Stop};
-
-const MODES: [Mode; 2] = [Mode::Plain, Mode::Deferred];
 
 fn answer(stop: Stop, steps: u64) -> Answer {
     Answer { stop, steps }
@@ -28,23 +26,8 @@ fn the_example_program() {
 
 #[test]
 fn each_refusal_of_a_run() {
-    let (division, beyond, misaligned) = (r(DIV, 2, 1, 0), i(LW, 2, 1, 4), i(SW, 1, 1, 0));
-    let (shift, call_with_bits) = (i(SLLI, 1, 1, 64), ECALL | 1 << 31);
-    let cases: [(u64, u64, &[u32], Refusal); 11] = [
-        (7, 0, &[division], Refusal::DivisorZero { pc: 0 }),
-        (60, 0, &[beyond], Refusal::Beyond { address: 64 }),
-        (u64::MAX - 7, 0, &[beyond], Refusal::Beyond { address: u64::MAX - 3 }),
-        (1, 0, &[misaligned], Refusal::Misaligned { address: 1 }),
-        (0, 0, &[0], Refusal::BadOpcode { word: 0 }),
-        (0, 0, &[51 | 1 << 31], Refusal::BadOpcode { word: 0x80000033 }),
-        (0, 0, &[shift], Refusal::UnusedBits { word: shift }),
-        (0, 0, &[call_with_bits], Refusal::UnusedBits { word: call_with_bits }),
-        (0, 2, &[], Refusal::PcMisaligned { pc: 2 }),
-        (0, 64, &[], Refusal::PcBeyond { pc: 64 }),
-        (0, u64::MAX - 3, &[], Refusal::PcBeyond { pc: u64::MAX - 3 }),
-    ];
-    for ((r1, pc, words, refusal), mode) in cases.into_iter().flat_map(|case| MODES.map(|mode| (case, mode))) {
-        let (mut state, mut lent) = (with_r1(r1), memory(64, words));
+    for ((r1, pc, word, refusal), mode) in refusals().into_iter().flat_map(|case| MODES.map(|mode| (case, mode))) {
+        let (mut state, mut lent) = (with_r1(r1), memory(64, &[word]));
         state.set_pc(pc);
         let before = (state.clone(), lent.clone());
         assert_eq!(run(&mut state, &mut lent, 10, mode), answer(Stop::Refused(refusal), 0), "{refusal}");

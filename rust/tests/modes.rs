@@ -2,42 +2,10 @@
 
 mod common;
 
-use common::{i, memory, Random};
-use yokeglimmer::{run, Mode, Register, State, Stop};
+use common::{memory, start, word, Random, WORDS};
+use yokeglimmer::{run, Mode, State, Stop};
 
 const PROGRAMS: u64 = 3_000;
-const WORDS: usize = 32;
-
-/// A valid word: any opcode, registers R0 to R7, small immediates; now and then a raw word, mostly refused.
-fn word(random: &mut Random) -> u32 {
-    if random.below(40) == 0 {
-        return random.draw() as u32;
-    }
-    let opcode = match random.below(8) {
-        0 => 1 + random.below(50) as u32,
-        1..=4 => [1, 2, 9][random.below(3) as usize], // Add, Sub and Addi have deferred forms
-        _ => 1 + random.below(30) as u32,
-    };
-    let [a, b, c] = [0; 3].map(|_| random.below(8) as u32);
-    match opcode {
-        47 => opcode | a << 7 | (4 * random.below(16) as u32) << 11,
-        49 | 50 => opcode,
-        19..=21 => i(opcode, a, b, random.below(64) as i32),
-        9 => i(opcode, a, b, random.below(1 << 17) as i32),
-        13..=15 | 31..=46 | 48 => i(opcode, a, b, 4 * random.below(32) as i32),
-        _ => opcode | a << 7 | b << 11 | c << 15,
-    }
-}
-
-fn start(random: &mut Random) -> State {
-    let mut state = State::new(0);
-    for n in 1..8 {
-        let value = random.draw() >> random.below(64);
-        state.set_register(n, Register::Whole(value)).expect("any whole value");
-        state.set_bound(n, random.below(65) as u8).expect("at most 64");
-    }
-    state
-}
 
 /// What two runs that agree have in common.
 fn read(state: &State) -> (u64, bool, [(u64, u8); 16]) {

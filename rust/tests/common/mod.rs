@@ -1,9 +1,12 @@
 //! Words of the machine, built from document 01's fields, and states and programs for the tests.
 #![allow(dead_code)] // each test file uses some of it
 
-use yokeglimmer::{Register, State};
+use yokeglimmer::{Mode, Refusal, Register, State};
+
+pub const MODES: [Mode; 2] = [Mode::Plain, Mode::Deferred];
 
 pub const ADD: u32 = 1;
+pub const MUL: u32 = 3;
 pub const DIV: u32 = 5;
 pub const ADDI: u32 = 9;
 pub const SLLI: u32 = 19;
@@ -41,6 +44,25 @@ pub fn with_r1(value: u64) -> State {
     state
 }
 
+/// Steps that are refused, over 64 bytes of memory: R1's value, the pc, the word at address 0, and the refusal.
+pub fn refusals() -> [(u64, u64, u32, Refusal); 11] {
+    let (division, beyond, misaligned) = (r(DIV, 2, 1, 0), i(LW, 2, 1, 4), i(SW, 1, 1, 0));
+    let (shift, call_with_bits) = (i(SLLI, 1, 1, 64), ECALL | 1 << 31);
+    [
+        (7, 0, division, Refusal::DivisorZero { pc: 0 }),
+        (60, 0, beyond, Refusal::Beyond { address: 64 }),
+        (u64::MAX - 7, 0, beyond, Refusal::Beyond { address: u64::MAX - 3 }),
+        (1, 0, misaligned, Refusal::Misaligned { address: 1 }),
+        (0, 0, 0, Refusal::BadOpcode { word: 0 }),
+        (0, 0, 51 | 1 << 31, Refusal::BadOpcode { word: 0x80000033 }),
+        (0, 0, shift, Refusal::UnusedBits { word: shift }),
+        (0, 0, call_with_bits, Refusal::UnusedBits { word: call_with_bits }),
+        (0, 2, 0, Refusal::PcMisaligned { pc: 2 }),
+        (0, 64, 0, Refusal::PcBeyond { pc: 64 }),
+        (0, u64::MAX - 3, 0, Refusal::PcBeyond { pc: u64::MAX - 3 }),
+    ]
+}
+
 /// Seeded random numbers (splitmix64).
 pub struct Random(pub u64);
 
@@ -56,4 +78,54 @@ impl Random {
     pub fn below(&mut self, limit: u64) -> u64 {
         self.draw() % limit
     }
+}
+
+/// Of a generated program.
+pub const WORDS: usize = 32;
+
+/// A valid word: any opcode, registers R0 to R7, small immediates; now and then a raw word, mostly refused.
+pub fn word(random: &mut Random) -> u32 {
+    if random.below(40) == 0 {
+        return random.draw() as u32;
+    }
+    let opcode = match random.below(8) {
+        0 => 1 + random.below(50) as u32,
+        1..=4 => [1, 2, 9][random.below(3) as usize], // Add, Sub and Addi have deferred forms
+        _ => 1 + random.below(30) as u32,
+    };
+    let [a, b, c] = [0; 3].map(|_| random.below(8) as u32);
+    match opcode {
+        47 => opcode | a << 7 | (4 * random.below(16) as u32) << 11,
+        49 | 50 => opcode,
+        19..=21 => i(opcode, a, b, random.below(64) as i32),
+        9 => i(opcode, a, b, random.below(1 << 17) as i32),
+        13..=15 | 31..=46 | 48 => i(opcode, a, b, 4 * random.below(32) as i32),
+        _ => opcode | a << 7 | b << 11 | c << 15,
+    }
+}
+
+pub fn start(random: &mut Random) -> State {
+    let mut state = State::new(0);
+    for n in 1..8 {
+        let value = random.draw() >> random.below(64);
+        state.set_register(n, Register::Whole(value)).expect("any whole value");
+        state.set_bound(n, random.below(65) as u8).expect("at most 64");
+    }
+    state
+}
+
+/// Any state: every register whole or accumulated.
+pub fn any_state(random: &mut Random) -> State {
+    let limit = 1 << 30;
+    let mut state = State::new(random.draw());
+    state.set_halted(random.below(2) == 1);
+    for n in 1..16 {
+        let register = match random.below(2) {
+            0 => Register::Whole(random.draw()),
+            _ => Register::Accumulated { low: random.below(limit), high: random.below(limit) },
+        };
+        state.set_register(n, register).expect("well-formed");
+        state.set_bound(n, random.below(65) as u8).expect("well-formed");
+    }
+    state
 }

@@ -1,0 +1,86 @@
+//! What a step is lent and answers, as records of numbers; and a state from and to such a record.
+
+use crate::layout::{ACCUMULATED, REGISTERS, WHOLE};
+use crate::malformed::Malformed;
+use crate::state::{Register, State};
+
+/// The bits of an accumulated register's value below its high limb.
+const LOW_BITS: u32 = 30;
+
+/// A state as a record. Any numbers can stand in it: which are a state, [`State::try_from`] says.
+#[repr(C)]
+#[derive(Clone, Copy, Debug, PartialEq, Eq, Hash)]
+pub struct Lent {
+    pub pc: u64,
+    /// The halt mark, 0 or 1.
+    pub halted: u8,
+    /// 0 whole, 1 accumulated.
+    pub kinds: [u8; REGISTERS],
+    /// 0 to 64.
+    pub bounds: [u8; REGISTERS],
+    /// Of an accumulated register: low + 2^30 * high, with both below 2^30.
+    pub values: [u64; REGISTERS],
+}
+
+/// A check that is still to be made: an instruction's result, the bits noted of it, which are over 40, and its pc.
+#[repr(C)]
+#[derive(Clone, Copy, Debug, Default, PartialEq, Eq, Hash)]
+pub struct Pending {
+    pub value: u64,
+    pub bound: u8,
+    pub pc: u64,
+}
+
+/// What a step of a record answers.
+#[repr(C)]
+#[derive(Clone, Copy, Debug, PartialEq, Eq, Hash)]
+pub struct Answer {
+    /// 0 where the run goes on, 1 to 9 refusals, 64 Ebreak, 65 Ecall.
+    pub code: u64,
+    pub particular: u64,
+    /// How many records of the list are now in use.
+    pub count: usize,
+}
+
+impl From<&State> for Lent {
+    fn from(state: &State) -> Self {
+        let registers = std::array::from_fn(|n| match state.register(n) {
+            Register::Whole(value) => (WHOLE, value),
+            Register::Accumulated { low, high } => (ACCUMULATED, low + (high << LOW_BITS)),
+        });
+        Lent {
+            pc: state.pc(),
+            halted: state.is_halted().into(),
+            kinds: registers.map(|(kind, _)| kind),
+            bounds: std::array::from_fn(|n| state.bound(n)),
+            values: registers.map(|(_, value)| value),
+        }
+    }
+}
+
+/// The inverse; it refuses the records that are no state's, with the rule.
+impl TryFrom<&Lent> for State {
+    type Error = Malformed;
+
+    fn try_from(lent: &Lent) -> Result<Self, Malformed> {
+        let mut state = State::new(lent.pc);
+        if lent.halted > 1 {
+            return Err(Malformed::HaltMark { byte: lent.halted });
+        }
+        state.set_halted(lent.halted == 1);
+        for n in 0..REGISTERS {
+            state.set_register(n, register(n, lent)?)?;
+            state.set_bound(n, lent.bounds[n])?;
+        }
+        Ok(state)
+    }
+}
+
+fn register(n: usize, lent: &Lent) -> Result<Register, Malformed> {
+    let value = lent.values[n];
+    match lent.kinds[n] {
+        WHOLE => Ok(Register::Whole(value)),
+        ACCUMULATED => Ok(Register::Accumulated { low: value % (1 << LOW_BITS), high: value >> LOW_BITS }),
+        byte => Err(Malformed::Kind { register: n, byte }),
+    }
+}
