@@ -1,4 +1,5 @@
-/* The host's call of the proved zkIR core. It needs no library but the archive that `rt staticlib host` makes. */
+/* The host's calls of the proved zkIR core, a run and a single step. They need no library but the archives that
+ * `rt staticlib host` (the run's) and `rt staticlib lent` (the step's) make. */
 #ifndef ZKIR_H
 #define ZKIR_H
 
@@ -24,12 +25,12 @@ extern "C" {
 /* The answer, three little-endian numbers of 8: code, steps, particular. Steps are the instructions completed. */
 #define ZKIR_ANSWER_BYTES 24
 
-/* The modes. A plain run refuses a state with an accumulated register. */
+/* The modes. A plain run or step refuses a state with an accumulated register. */
 #define ZKIR_PLAIN 0
 #define ZKIR_DEFERRED 1
 
 /* The codes, with the particular of each; it is 0 at the others. */
-#define ZKIR_FUEL 0          /* the fuel is used up */
+#define ZKIR_FUEL 0          /* the fuel is used up; of a step: the run goes on */
 #define ZKIR_DIVISOR_ZERO 1  /* pc */
 #define ZKIR_BEYOND 2        /* address, which with the access's size reaches beyond memory */
 #define ZKIR_MISALIGNED 3    /* address, which is no multiple of the access's size */
@@ -52,6 +53,43 @@ extern "C" {
  * the same time. */
 uint64_t zkir_run(uint8_t *state, size_t state_length, uint8_t *memory, size_t memory_length, uint8_t *answer,
                   size_t answer_length, uint64_t fuel, uint64_t mode);
+
+/* The state as a record. Halt mark, kinds and bounds are as above, and so is R0: all zeros. The value of an accumulated
+ * register is low + 2^30 * high here. */
+struct zkir_lent {
+    uint64_t pc;
+    uint8_t halted;
+    uint8_t kinds[ZKIR_REGISTERS];
+    uint8_t bounds[ZKIR_REGISTERS];
+    uint64_t values[ZKIR_REGISTERS];
+};
+
+/* A pending check: a result, the bits noted of it, which are over 40, and the pc of its instruction. */
+struct zkir_pending {
+    uint64_t value;
+    uint8_t bound;
+    uint64_t pc;
+};
+
+/* What a step answers: code, particular, and how many records of the list are now in use. */
+struct zkir_stepped {
+    uint64_t code;
+    uint64_t particular;
+    size_t count;
+};
+
+/* Takes one step from the state's pc, over memory from address 0, whether the state is halted or not.
+ *
+ * The list has `list_length` records, of which the first `count` are in use. Add and Mul in the plain mode, and Mul
+ * alone in the deferred one, append a check where the result's bound is over 40, and are refused (8) if the list is
+ * full. A list_length of 0 means that none is lent: then none is listed and none refused.
+ *
+ * A wrong mode, count or record is refused (9). A refused step changes nothing that is lent.
+ *
+ * What is lent does not overlap, and no pointer is null, even if its length is 0. Nothing is kept after the call, and
+ * calls on different states may run at the same time. */
+struct zkir_stepped zkir_step(struct zkir_lent *state, uint8_t *memory, size_t memory_length, struct zkir_pending *list,
+                              size_t list_length, size_t count, uint64_t mode);
 
 #ifdef __cplusplus
 }

@@ -1,8 +1,6 @@
-/* Calls zkir_run with right and with damaged arguments, and compares every byte that is lent with what it must be.
- * printf is declared and not included: the program is also compiled for x86-64 where there are no headers for that. */
+/* Calls zkir_run with right and with damaged arguments, and compares every byte that is lent with what it must be. */
+#include "check.h"
 #include "zkir.h"
-
-int printf(const char *format, ...);
 
 #define ROOM 512 /* of each buffer: what lies behind the part that is lent must stay as it was */
 #define MEMORY_BYTES 64
@@ -13,16 +11,6 @@ struct call {
     size_t state_length, memory_length, answer_length;
     uint64_t fuel, mode;
 };
-
-static int tried, failed;
-
-static void check(int right, const char *name, const char *what) {
-    tried++;
-    if (!right) {
-        failed++;
-        printf("host.c: %s: wrong %s\n", name, what);
-    }
-}
 
 static void put(uint8_t *bytes, size_t at, uint64_t number) {
     for (int i = 0; i < 8; i++)
@@ -212,6 +200,5 @@ int main(void) {
         damaged_bytes(mode);
     }
     damaged_limbs();
-    printf("host.c: %d comparisons, %d wrong\n", tried, failed);
-    return failed != 0;
+    return report();
 }
