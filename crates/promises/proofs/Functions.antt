@@ -1,6 +1,5 @@
 -- Each public function, in the order of crates.txt: two outcomes that its own contract allows are one. The name of a law is the function's,
 -- crate·module·function, and `tools/promises` holds this list to the source.
-use mathlib.Core.Path.{sym, ap, ap₂, _∙_}
 use mathlib.Core.List.{[]}
 use Rattle.encoding.proofs as encoding
 use Rattle.value.proofs as value
@@ -15,19 +14,17 @@ use Rattle.execute.proofs as execute
 use Rattle.run.proofs as run
 use Rattle.host.proofs as host
 use Rattle.exports.proofs as exports
-use Rattle.checks.proofs as checks
-use Rattle.lent.proofs as lent
 use Rattle.state.specs.Registers.{Registers}
 use Rattle.execute.specs.World.{Stepped}
 use Rattle.run.specs.Pending.{Lists}
 use Rattle.run.specs.Step.{Left}
 use Rattle.run.specs.Run.{Answer}
 use Rattle.run.specs.Leg.{Leg}
-use Rattle.host.specs.Call.{Called, stateOf}
+use Rattle.host.specs.Call.{Called}
 use Rattle.exports.specs.Machine.{Given}
 use Rattle.promises.specs.Determined.{Determined}
 use Rattle.promises.proofs.Laws.{one, two, _&_}
-use Rattle.promises.proofs.Regrouped.{advanceOf, executedOf, oneStepOf, ranOf, goneOf, outcomeOf, LimbsLeft, MachineLeft, RecordLeft, records-one}
+use Rattle.promises.proofs.Regrouped.{advanceOf, executedOf, oneStepOf, ranOf, goneOf, LimbsLeft, MachineLeft}
 
 -- ---- encoding
 pub encoding·fields·extract-opcode : Determined encoding.fields.extract_opcode.ended encoding.fields.extract_opcode.Reads.Learnt
@@ -590,26 +587,3 @@ exports·words·oracle-encode-btype κs a x y = one (λ r. r & x .1)
 
 pub exports·words·oracle-encode-jtype : Determined exports.words.oracle_encode_jtype.ended exports.words.oracle_encode_jtype.Reads.Learnt
 exports·words·oracle-encode-jtype κs a x y = one (λ r. r & x .1)
-
--- ---- checks
-pub checks·append : Determined checks.append.ended checks.append.Reads.Learnt
-checks·append κs a x y = λ p q. ap₂ (λ r l. r & l & x .1 .1) (p .0 ∙ sym (q .0)) (records-one (p .1) (q .1))
-
-pub checks·empty : Determined checks.empty.ended checks.empty.Reads.Learnt
-checks·empty κs a x y = λ p q. ap₂ (λ (h : Lists) l. h .count & l & x .1 .1) (p ∙ sym q) (records-one p q)
-
-pub checks·read : Determined checks.read.ended checks.read.Reads.Learnt
-checks·read κs a x y = one (λ r. r & x .1)
-
-pub checks·machine·step : Determined checks.machine.step.ended checks.machine.step.Reads.Learnt
-checks·machine·step κs a x y = λ p q. ap₂ (λ (s : Left) l. oneStepOf s & tt & tt & s .world .memory & l & tt & tt) (p ∙ sym q) (records-one (ap (λ (s : Left). s .lists) p) (ap (λ (s : Left). s .lists) q))
-
-pub checks·machine·run : Determined checks.machine.run.ended checks.machine.run.Reads.Learnt
-checks·machine·run κs a x y = λ p q. ap₂ (λ (r : Answer) l. ranOf r & tt & tt & tt & r .world .memory & l & tt & tt) (p ∙ sym q) (records-one (ap (λ (r : Answer). r .lists) p) (ap (λ (r : Answer). r .lists) q))
-
--- ---- lent
-pub lent·step-in-place : Determined lent.step_in_place.ended lent.step_in_place.Reads.Learnt
-lent·step-in-place κs a x y = λ p q. ap₂ (λ (s : Left) l. outcomeOf s & stateOf (s .world) & tt & s .world .memory & l & tt & tt) (p ∙ sym q) (records-one (ap (λ (s : Left). s .lists) p) (ap (λ (s : Left). s .lists) q))
-
-pub lent·exported·zkir-step : Determined lent.exported.zkir_step.ended lent.exported.zkir_step.Reads.Learnt
-lent·exported·zkir-step κs a x y = λ p q. ap₂ (λ (s : RecordLeft) l. s .answer & s .state & s .memory & l & tt & tt & tt) (p ∙ sym q) (records-one (ap (λ (s : RecordLeft). s .lists) p) (ap (λ (s : RecordLeft). s .lists) q))

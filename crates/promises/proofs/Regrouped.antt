@@ -1,11 +1,7 @@
 -- The records in which a promise gathers what a call leaves, taken apart again.
-use Prim.Native.Nat.{ℕ}
-use mathlib.Core.Path.{_≡_, sym, _∙_}
-use mathlib.Core.List.{List}
 use Rattle.execute.specs.World.{Stepped}
 use Rattle.execute.specs.declared.Advance.{Advance}
 use Rattle.execute.specs.declared.Executed.{Executed}
-use Rattle.run.specs.Pending.{Lists}
 use Rattle.run.specs.Step.{Left}
 use Rattle.run.specs.Run.{Answer}
 use Rattle.run.specs.Leg.{Leg}
@@ -15,11 +11,6 @@ use Rattle.run.specs.declared.Ran.{Ran}
 use Rattle.host.specs.Call.{stateOf}
 use Rattle.exports.specs.Limbs as Limbs
 use Rattle.exports.specs.Machine as Machine
-use Rattle.checks.specs.Records.{listed}
-use Rattle.checks.specs.declared.Pending.{Pending}
-use Rattle.checks.proofs.Listed.{listed-injective}
-use Rattle.lent.specs.Lent as Lent
-use Rattle.lent.specs.declared.Outcome.{Outcome}
 
 abbrev pub advanceOf : Stepped → Advance
 advanceOf s = record { went = s .went; pc = s .world .pc; halted = s .world .halted; check = s .check }
@@ -36,19 +27,9 @@ ranOf a = record { stop = a .stop; steps = a .steps; count = a .lists .count; st
 abbrev pub goneOf : Leg → Gone
 goneOf l = record { went = l .went; steps = l .steps; check = l .check; pc = l .pc; state = stateOf (l .world) }
 
-abbrev pub outcomeOf : Left → Outcome
-outcomeOf l = record { went = l .went; count = l .lists .count }
-
--- those of three crates that go by one name
+-- two that go by one name
 abbrev pub LimbsLeft : Type 0
 LimbsLeft = Limbs.Lent
 
 abbrev pub MachineLeft : Type 0
 MachineLeft = Machine.Lent
-
-abbrev pub RecordLeft : Type 0
-RecordLeft = Lent.Stepped
-
--- the records that hold one thing are one
-pub records-one : {n m : ℕ} {l k : List Pending} {h : Lists} → listed n l ≡ h → listed m k ≡ h → l ≡ k
-records-one p q = (listed-injective _ _ _ _ (p ∙ sym q)) .1
