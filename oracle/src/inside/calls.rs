@@ -130,7 +130,7 @@ fn given(case: &mut Case, random: &mut Random) -> What {
         case.set_pc(corners::value(random));
     }
     let word = case.memory.get(pc..).and_then(|from| from.first_chunk().copied()).map(u32::from_le_bytes);
-    let decoded = word.and_then(|word| crate::words::parts(word));
+    let decoded = word.and_then(crate::words::parts);
     match decoded {
         Some((opcode, registers, imm)) if !random.chance(4) => What::Execute { opcode, registers, imm },
         _ => What::Execute {
