@@ -3,3 +3,4 @@ pub mod Regrouped
 pub mod Functions
 pub mod Corners
 pub mod Control
+pub mod ByHand

@@ -9,6 +9,7 @@ use Rattle.run.specs.declared.leg.Gone.{Gone}
 use Rattle.run.specs.declared.OneStep.{OneStep}
 use Rattle.run.specs.declared.Ran.{Ran}
 use Rattle.host.specs.Call.{stateOf}
+use Rattle.lent.specs.declared.Outcome.{Outcome}
 use Rattle.exports.specs.Limbs as Limbs
 use Rattle.exports.specs.Machine as Machine
 
@@ -26,6 +27,9 @@ ranOf a = record { stop = a .stop; steps = a .steps; count = a .lists .count; st
 
 abbrev pub goneOf : Leg → Gone
 goneOf l = record { went = l .went; steps = l .steps; check = l .check; pc = l .pc; state = stateOf (l .world) }
+
+abbrev pub outcomeOf : Left → Outcome
+outcomeOf l = record { went = l .went; count = l .lists .count }
 
 -- two that go by one name
 abbrev pub LimbsLeft : Type 0

@@ -1,0 +1,96 @@
+-- Each public function that is proved by hand: what it tells, which its clauses are, and that this determines what a call leaves. `tools/promises`
+-- holds this list to the source too.
+use Prim.Native.Nat.{ℕ}
+use mathlib.Core.Path.{_≡_, refl, sym, ap, ap₂, _∙_}
+use mathlib.Core.List.{List}
+use denote.Ref.{now}
+use Rattle.checks.proofs as checks
+use Rattle.lent.proofs as lent
+use Rattle.execute.specs.World.{worldOf}
+use Rattle.run.specs.Pending.{Lists, emptied, entryAt}
+use Rattle.run.specs.Step.{Left, left, documentRules, step}
+use Rattle.run.specs.Run.{Answer, run}
+use Rattle.host.specs.Call.{stateOf}
+use Rattle.checks.specs.Records.{listed, answerTo, withOne}
+use Rattle.checks.specs.Machine.{steppedOver, ranOver}
+use Rattle.checks.specs.declared.Pending.{Pending}
+use Rattle.checks.proofs.Listed.{listed-injective}
+use Rattle.lent.specs.Lent.{Stepped, lentLeft, stepLent}
+use Rattle.agreement.specs.Contracts.{Telling}
+use Rattle.promises.specs.ByHand.{ByHand}
+use Rattle.promises.proofs.Laws.{one, _&_}
+use Rattle.promises.proofs.Regrouped.{oneStepOf, ranOf, outcomeOf}
+
+-- records that are listed as one thing are one
+records-one : {n m : ℕ} {l k : List Pending} {h : Lists} → listed n l ≡ h → listed m k ≡ h → l ≡ k
+records-one p q = (listed-injective _ _ _ _ (p ∙ sym q)) .1
+
+-- what is read off a promise's equation, of which h is the part that lists records
+over : {A B : Type 0} {v u w : A} {n m : ℕ} {l k : List Pending} (f : A → List Pending → B) (h : A → Lists) → h u ≡ listed n l → h w ≡ listed m k
+    → u ≡ v → w ≡ v → f u l ≡ f w k
+over f h s t p q = ap₂ f (p ∙ sym q) (records-one (sym s ∙ ap h p) (sym t ∙ ap h q))
+
+-- ---- checks
+abbrev appends : Telling checks.append.ended
+appends κs a r e =
+    (r ≡ answerTo (a .1 .1 .0) (a .1 .0) (now (a .0)))
+    × (listed (withOne (a .1 .1 .0) (a .1 .0) (now (a .0)) .count) (now (e .0)) ≡ withOne (a .1 .1 .0) (a .1 .0) (now (a .0)))
+
+pub checks·append : ByHand checks.append.ended (λ M 𝓤. checks.append.clauses {M = M} 𝓤) appends
+checks·append =
+    (λ M 𝓤 H A m run κs a g r e. refl, λ κs a x y p q. ap₂ (λ r l. r & l & x .1 .1) (p .0 ∙ sym (q .0)) (records-one (p .1) (q .1)))
+
+abbrev empties : Telling checks.empty.ended
+empties κs a r e = listed r (now (e .0)) ≡ emptied (listed (a .1 .0) (now (a .0)))
+
+pub checks·empty : ByHand checks.empty.ended (λ M 𝓤. checks.empty.clauses {M = M} 𝓤) empties
+checks·empty = (λ M 𝓤 H A m run κs a g r e. refl, λ κs a x y. over (λ h l. h .count & l & x .1 .1) (λ h. h) refl refl)
+
+abbrev reads : Telling checks.read.ended
+reads κs a r e = r ≡ entryAt (a .1 .1 .0) (listed (a .1 .0) (now (a .0)))
+
+pub checks·read : ByHand checks.read.ended (λ M 𝓤. checks.read.clauses {M = M} 𝓤) reads
+checks·read = (λ M 𝓤 H A m run κs a g r e. refl, λ κs a x y. one (λ r. r & x .1))
+
+abbrev steps : Telling checks.machine.step.ended
+steps κs a r e =
+    steppedOver r (now (e .1 .1 .0)) (now (e .1 .1 .1 .0))
+    ≡ step (a .0) documentRules (worldOf (a .1 .0) (now (a .1 .1 .0))) (listed (a .1 .1 .1 .1 .0) (now (a .1 .1 .1 .0)))
+
+pub checks·machine·step : ByHand checks.machine.step.ended (λ M 𝓤. checks.machine.step.clauses {M = M} 𝓤) steps
+checks·machine·step = (
+  λ M 𝓤 H A m run κs a g r e. refl,
+  λ κs a x y. over (λ (s : Left) l. oneStepOf s & tt & tt & s .world .memory & l & tt & tt) (λ s. s .lists) refl refl,
+)
+
+abbrev runs : Telling checks.machine.run.ended
+runs κs a r e =
+    ranOver r (now (e .1 .1 .1 .0)) (now (e .1 .1 .1 .1 .0))
+    ≡ run (a .0) documentRules (a .1 .1 .0) (worldOf (a .1 .0) (now (a .1 .1 .1 .0))) (listed (a .1 .1 .1 .1 .1 .0) (now (a .1 .1 .1 .1 .0)))
+
+pub checks·machine·run : ByHand checks.machine.run.ended (λ M 𝓤. checks.machine.run.clauses {M = M} 𝓤) runs
+checks·machine·run = (
+  λ M 𝓤 H A m run κs a g r e. refl,
+  λ κs a x y. over (λ (s : Answer) l. ranOf s & tt & tt & tt & s .world .memory & l & tt & tt) (λ s. s .lists) refl refl,
+)
+
+-- ---- lent
+abbrev stepsInPlace : Telling lent.step_in_place.ended
+stepsInPlace κs a r e =
+    left (r .went) (worldOf (now (e .0)) (now (e .1 .1 .0))) (listed (r .count) (now (e .1 .1 .1 .0)))
+    ≡ step (a .1 .0) documentRules (worldOf (now (a .0)) (now (a .1 .1 .0))) (listed (a .1 .1 .1 .1 .0) (now (a .1 .1 .1 .0)))
+
+pub lent·step-in-place : ByHand lent.step_in_place.ended (λ M 𝓤. lent.step_in_place.clauses {M = M} 𝓤) stepsInPlace
+lent·step-in-place = (
+  λ M 𝓤 H A m run κs a g r e. refl,
+  λ κs a x y. over (λ (s : Left) l. outcomeOf s & stateOf (s .world) & tt & s .world .memory & l & tt & tt) (λ s. s .lists) refl refl,
+)
+
+abbrev stepsLent : Telling lent.exported.zkir_step.ended
+stepsLent κs a r e =
+    lentLeft r (now (e .0)) (now (e .1 .0)) (listed (r .count) (now (e .1 .1 .0)))
+    ≡ stepLent (a .1 .1 .1 .1 .0) (now (a .0)) (now (a .1 .0)) (listed (a .1 .1 .1 .0) (now (a .1 .1 .0)))
+
+pub lent·exported·zkir-step : ByHand lent.exported.zkir_step.ended (λ M 𝓤. lent.exported.zkir_step.clauses {M = M} 𝓤) stepsLent
+lent·exported·zkir-step =
+    (λ M 𝓤 H A m run κs a g r e. refl, λ κs a x y. over (λ (s : Stepped) l. s .answer & s .state & s .memory & l & tt & tt & tt) (λ s. s .lists) refl refl)
