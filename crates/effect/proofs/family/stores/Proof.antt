@@ -4,6 +4,9 @@ use borrow.Author.Needs.{needs}
 use Rattle.effect.proofs.family.stores.Statement.{statement}
 use Rattle.effect.proofs.family.stores.Tie as tie
 
+plus-requires : tie.Need-plus-requires
+plus-requires c κs = search needs
+
 storable-requires : tie.Need-storable-requires
 storable-requires c κs = search needs
 
@@ -21,11 +24,11 @@ enum-known-r c = search needs
 
 returns : tie.Need-returns
 unfolding onStorable
-returns c = rw (sym (c .before .before .before .before .storable .ensures) ∙ c .before .before .enum-told .given .1, c .stores-at .ensures, c .before .following .ensures)
+returns c = rw (← c .before .before .before .before .before .plus .ensures, sym (c .before .before .before .before .storable .ensures) ∙ c .before .before .enum-told .given .1, c .stores-at .ensures, c .before .following .ensures)
 
 returns-2 : tie.Need-returns-2
 unfolding onStorable
-returns-2 c = rw (sym (c .before .before .before .storable .ensures) ∙ c .before .r .given .1)
+returns-2 c = rw (← c .before .before .before .before .plus .ensures, sym (c .before .before .before .storable .ensures) ∙ c .before .r .given .1)
 
 pub stores-spec : {M : Type 1} → statement M
-stores-spec = tie.close (tie.spec storable-requires enum-told following-requires stores-at-requires enum-known-r returns returns-2)
+stores-spec = tie.close (tie.spec plus-requires storable-requires enum-told following-requires stores-at-requires enum-known-r returns returns-2)
