@@ -14,6 +14,7 @@ ghost use mathlib.Core.Path.{_≡_};
 ghost use mathlib.Core.Bool.{cond};
 ghost use Prim.Native.Nat.{_%_, _*_, _/_};
 ghost use lib.Dec.{eqb};
+ghost use lib.ListN.{length};
 ghost use Rattle.refusal.specs.Stops.{refusalOf};
 ghost use Rattle.value.specs.Forty.{add40, sub40, mul40, and40, or40, xor40, shl40, shr40, sra40};
 ghost use Rattle.value.specs.Product.{mulhOf};
@@ -103,10 +104,10 @@ pub(crate) fn add(o: Operands) -> Outcome
 }
 
 // Addi needs no check.
-pub(crate) fn add_unchecked(o: Operands) -> Outcome
-    ensures { λ r. ⌜ r ≡ writes (o .rd) (add40 (o .b) (o .c)) (afterAdd (o .y) (o .z)) (plus64 (o .pc) 4) ⌝ }
+pub(crate) fn add_unchecked(o: Operands, t: u64, bound: u8) -> Outcome
+    ensures { λ r. ⌜ r ≡ writes (o .rd) (add40 (o .b) t) (afterAdd (o .y) bound) (plus64 (o .pc) 4) ⌝ }
 {
-    writes(o, value::forty::add(o.b, o.c), bound::after_add(o.y, o.z))
+    writes(o, value::forty::add(o.b, t), bound::after_add(o.y, bound))
 }
 
 pub(crate) fn sub(o: Operands) -> Outcome
@@ -131,51 +132,51 @@ pub(crate) fn mulh(o: Operands) -> Outcome
     )
 }
 
-pub(crate) fn and(o: Operands) -> Outcome
-    ensures { λ r. ⌜ r ≡ writes (o .rd) (and40 (o .b) (o .c)) (afterAnd (o .y) (o .z)) (plus64 (o .pc) 4) ⌝ }
+pub(crate) fn and(o: Operands, t: u64, bound: u8) -> Outcome
+    ensures { λ r. ⌜ r ≡ writes (o .rd) (and40 (o .b) t) (afterAnd (o .y) bound) (plus64 (o .pc) 4) ⌝ }
 {
-    writes(o, value::forty::and(o.b, o.c), bound::after_and(o.y, o.z))
+    writes(o, value::forty::and(o.b, t), bound::after_and(o.y, bound))
 }
 
-pub(crate) fn or(o: Operands) -> Outcome
-    ensures { λ r. ⌜ r ≡ writes (o .rd) (or40 (o .b) (o .c)) (afterSub (o .y) (o .z)) (plus64 (o .pc) 4) ⌝ }
+pub(crate) fn or(o: Operands, t: u64, bound: u8) -> Outcome
+    ensures { λ r. ⌜ r ≡ writes (o .rd) (or40 (o .b) t) (afterSub (o .y) bound) (plus64 (o .pc) 4) ⌝ }
 {
-    writes(o, value::forty::or(o.b, o.c), bound::after_sub(o.y, o.z))
+    writes(o, value::forty::or(o.b, t), bound::after_sub(o.y, bound))
 }
 
-pub(crate) fn xor(o: Operands) -> Outcome
-    ensures { λ r. ⌜ r ≡ writes (o .rd) (xor40 (o .b) (o .c)) (afterSub (o .y) (o .z)) (plus64 (o .pc) 4) ⌝ }
+pub(crate) fn xor(o: Operands, t: u64, bound: u8) -> Outcome
+    ensures { λ r. ⌜ r ≡ writes (o .rd) (xor40 (o .b) t) (afterSub (o .y) bound) (plus64 (o .pc) 4) ⌝ }
 {
-    writes(o, value::forty::xor(o.b, o.c), bound::after_sub(o.y, o.z))
+    writes(o, value::forty::xor(o.b, t), bound::after_sub(o.y, bound))
 }
 
-pub(crate) fn sll(o: Operands) -> Outcome
-    ensures { λ r. ⌜ r ≡ writes (o .rd) (shl40 (o .b) (o .c % 64)) (afterShl (o .y) (o .c % 64)) (plus64 (o .pc) 4) ⌝ }
+pub(crate) fn sll(o: Operands, t: u64) -> Outcome
+    ensures { λ r. ⌜ r ≡ writes (o .rd) (shl40 (o .b) (t % 64)) (afterShl (o .y) (t % 64)) (plus64 (o .pc) 4) ⌝ }
 {
     writes(
         o,
-        value::forty::shl(o.b, o.c % 64),
-        bound::after_shl(o.y, o.c % 64),
+        value::forty::shl(o.b, t % 64),
+        bound::after_shl(o.y, t % 64),
     )
 }
 
-pub(crate) fn srl(o: Operands) -> Outcome
-    ensures { λ r. ⌜ r ≡ writes (o .rd) (shr40 (o .b) (o .c % 64)) (afterSrl (o .y) (o .c % 64)) (plus64 (o .pc) 4) ⌝ }
+pub(crate) fn srl(o: Operands, t: u64) -> Outcome
+    ensures { λ r. ⌜ r ≡ writes (o .rd) (shr40 (o .b) (t % 64)) (afterSrl (o .y) (t % 64)) (plus64 (o .pc) 4) ⌝ }
 {
     writes(
         o,
-        value::forty::shr(o.b, o.c % 64),
-        bound::after_srl(o.y, o.c % 64),
+        value::forty::shr(o.b, t % 64),
+        bound::after_srl(o.y, t % 64),
     )
 }
 
-pub(crate) fn sra(o: Operands) -> Outcome
-    ensures { λ r. ⌜ r ≡ writes (o .rd) (sra40 (o .b) (o .c % 64)) (afterSra (o .y) (o .c % 64)) (plus64 (o .pc) 4) ⌝ }
+pub(crate) fn sra(o: Operands, t: u64) -> Outcome
+    ensures { λ r. ⌜ r ≡ writes (o .rd) (sra40 (o .b) (t % 64)) (afterSra (o .y) (t % 64)) (plus64 (o .pc) 4) ⌝ }
 {
     writes(
         o,
-        value::forty::sra(o.b, o.c % 64),
-        bound::after_sra(o.y, o.c % 64),
+        value::forty::sra(o.b, t % 64),
+        bound::after_sra(o.y, t % 64),
     )
 }
 
@@ -226,11 +227,11 @@ pub(crate) fn loads(op: LoadKind, o: Operands, m: &[u8]) -> Outcome
     loads_value(op, o, l)
 }
 
-pub(crate) fn stores(size: Size, o: Operands, len: usize) -> Outcome
-    ensures { λ r. ⌜ r ≡ onStorable (storesAt size (plus64 (o .a) (o .imm)) (o .b) (plus64 (o .pc) 4)) (storeOf size len (plus64 (o .a) (o .imm))) ⌝ }
+pub(crate) fn stores(size: Size, o: Operands, m: &[u8]) -> Outcome
+    ensures { λ r. ⌜ r ≡ onStorable (storesAt size (plus64 (o .a) (o .imm)) (o .b) (plus64 (o .pc) 4)) (storeOf size (length (now (m .entry))) (plus64 (o .a) (o .imm))) ⌝ }
 {
     let address = value::address::plus(o.a, o.imm);
-    match memory::storable(len, address, size) {
+    match memory::storable(m.len(), address, size) {
         Stored::Done => stores_at(size, address, o.b, following(o.pc)),
         Stored::Refused(r) => Outcome::Refuses(r),
     }

@@ -1,5 +1,5 @@
 // What an instruction does, decided from what it sees before anything changes.
-use crate::operands::immediate;
+use crate::operands::Operands;
 use instruction::Instruction;
 use instruction::LoadKind;
 use instruction::Parts;
@@ -11,6 +11,7 @@ ghost use Rattle.state.specs.Registers.{registers};
 ghost use Rattle.instruction.specs.Operands.{joinedOf};
 ghost use Rattle.effect.specs.Notes.{documentNotes};
 ghost use Rattle.effect.specs.Effects.{seen, effect};
+ghost use Rattle.effect.specs.Operands.{Decides};
 
 mod family; // family.rt: the effect of each kind of instruction
 mod load; // load.rt: what a load computes and notes
@@ -47,20 +48,10 @@ pub enum Outcome {
     Refuses(Refusal),
 }
 
-// One jump, by opcode. For a loop that does not build the instruction.
-pub fn effect_of_parts<'a>(
-    p: Parts,
-    pc: u64,
-    regs: &'a [u64; 16],
-    accumulated: &'a [bool; 16],
-    bounds: &'a [u8; 16],
-    m: &'a [u8],
-) -> Outcome
-    ensures { λ r. ⌜ r ≡ effect documentNotes (joinedOf p) (seen pc (registers (now (regs .entry)) (now (accumulated .entry)) (now (bounds .entry)))) (now (m .entry)) ⌝ }
+// One jump.
+fn effect_by_opcode(op: Opcode, o: Operands, m: &[u8]) -> Outcome
+    ensures { λ r. ⌜ Decides op o (now (m .entry)) r ⌝ }
 {
-    let op = p.op;
-    let o = operands::read(p, pc, regs, accumulated, bounds);
-    let len = m.len();
     match op {
         Opcode::Add => family::add(o),
         Opcode::Sub => family::sub(o),
@@ -70,19 +61,19 @@ pub fn effect_of_parts<'a>(
         Opcode::Divu => family::divides(o, value::division::divu(o.b, o.c)),
         Opcode::Rem => family::divides(o, value::division::rem(o.b, o.c)),
         Opcode::Remu => family::divides(o, value::division::remu(o.b, o.c)),
-        Opcode::Addi => family::add_unchecked(immediate(o)),
-        Opcode::And => family::and(o),
-        Opcode::Or => family::or(o),
-        Opcode::Xor => family::xor(o),
-        Opcode::Andi => family::and(immediate(o)),
-        Opcode::Ori => family::or(immediate(o)),
-        Opcode::Xori => family::xor(immediate(o)),
-        Opcode::Sll => family::sll(o),
-        Opcode::Srl => family::srl(o),
-        Opcode::Sra => family::sra(o),
-        Opcode::Slli => family::sll(immediate(o)),
-        Opcode::Srli => family::srl(immediate(o)),
-        Opcode::Srai => family::sra(immediate(o)),
+        Opcode::Addi => family::add_unchecked(o, o.imm, bound::from_constant(o.imm)),
+        Opcode::And => family::and(o, o.c, o.z),
+        Opcode::Or => family::or(o, o.c, o.z),
+        Opcode::Xor => family::xor(o, o.c, o.z),
+        Opcode::Andi => family::and(o, o.imm, bound::from_constant(o.imm)),
+        Opcode::Ori => family::or(o, o.imm, bound::from_constant(o.imm)),
+        Opcode::Xori => family::xor(o, o.imm, bound::from_constant(o.imm)),
+        Opcode::Sll => family::sll(o, o.c),
+        Opcode::Srl => family::srl(o, o.c),
+        Opcode::Sra => family::sra(o, o.c),
+        Opcode::Slli => family::sll(o, o.imm),
+        Opcode::Srli => family::srl(o, o.imm),
+        Opcode::Srai => family::sra(o, o.imm),
         Opcode::Slt => family::sets(o, value::forty::slt(o.b, o.c)),
         Opcode::Sltu => family::sets(o, value::forty::ult(o.b, o.c)),
         Opcode::Sge => family::sets(o, !value::forty::slt(o.b, o.c)),
@@ -98,10 +89,10 @@ pub fn effect_of_parts<'a>(
         Opcode::Lhu => family::loads(LoadKind::Lhu, o, m),
         Opcode::Lw => family::loads(LoadKind::Lw, o, m),
         Opcode::Ld => family::loads(LoadKind::Ld, o, m),
-        Opcode::Sb => family::stores(Size::Byte, o, len),
-        Opcode::Sh => family::stores(Size::Half, o, len),
-        Opcode::Sw => family::stores(Size::Word, o, len),
-        Opcode::Sd => family::stores(Size::Double, o, len),
+        Opcode::Sb => family::stores(Size::Byte, o, m),
+        Opcode::Sh => family::stores(Size::Half, o, m),
+        Opcode::Sw => family::stores(Size::Word, o, m),
+        Opcode::Sd => family::stores(Size::Double, o, m),
         Opcode::Beq => family::branches(o, o.a == o.b),
         Opcode::Bne => family::branches(o, o.a != o.b),
         Opcode::Blt => family::branches(o, value::forty::slt(o.a, o.b)),
@@ -110,9 +101,25 @@ pub fn effect_of_parts<'a>(
         Opcode::Bgeu => family::branches(o, !value::forty::ult(o.a, o.b)),
         Opcode::Jal => family::jal(o),
         Opcode::Jalr => family::jalr(o),
-        Opcode::Ecall => family::goes_to(value::address::plus(pc, 4), Goes::Ecall),
-        Opcode::Ebreak => family::goes_to(pc, Goes::Ebreak),
+        Opcode::Ecall => family::goes_to(value::address::plus(o.pc, 4), Goes::Ecall),
+        Opcode::Ebreak => family::goes_to(o.pc, Goes::Ebreak),
     }
+}
+
+// For a loop that does not build the instruction.
+pub fn effect_of_parts<'a>(
+    p: Parts,
+    pc: u64,
+    regs: &'a [u64; 16],
+    accumulated: &'a [bool; 16],
+    bounds: &'a [u8; 16],
+    m: &'a [u8],
+) -> Outcome
+    ensures { λ r. ⌜ r ≡ effect documentNotes (joinedOf p) (seen pc (registers (now (regs .entry)) (now (accumulated .entry)) (now (bounds .entry)))) (now (m .entry)) ⌝ }
+{
+    let op = p.op;
+    let o = operands::read(p, pc, regs, accumulated, bounds);
+    effect_by_opcode(op, o, m)
 }
 
 pub fn effect_of<'a>(

@@ -2,11 +2,11 @@
 use instruction::Parts;
 use state::registers;
 ghost use mathlib.Core.Path.{_≡_};
-ghost use Rattle.state.specs.Held.{valueOf};
-ghost use Rattle.state.specs.Registers.{heldAt, boundAt};
-ghost use Rattle.bound.specs.Bits.{bitsOf};
+ghost use Rattle.state.specs.Registers.{registers};
+ghost use Rattle.effect.specs.Effects.{seen};
+ghost use Rattle.effect.specs.Operands.{operandsOf};
 
-// rd is the register a; the values and the bounds are of the registers a, b and c of the instruction's parts.
+// rd is the register a of the parts; a, b and c are the values of the registers a, b and c, and x, y and z their bounds.
 pub(crate) struct Operands {
     pub pc: u64,
     pub rd: u8,
@@ -26,7 +26,7 @@ pub(crate) fn read<'a>(
     accumulated: &'a [bool; 16],
     bounds: &'a [u8; 16],
 ) -> Operands
-    ensures { λ r. ⌜ r ≡ record { pc = pc; rd = p .a; imm = p .imm; a = valueOf (heldAt (now (regs .entry)) (now (accumulated .entry)) (p .a)); b = valueOf (heldAt (now (regs .entry)) (now (accumulated .entry)) (p .b)); c = valueOf (heldAt (now (regs .entry)) (now (accumulated .entry)) (p .c)); x = boundAt (now (bounds .entry)) (p .a); y = boundAt (now (bounds .entry)) (p .b); z = boundAt (now (bounds .entry)) (p .c) } ⌝ }
+    ensures { λ r. ⌜ r ≡ operandsOf (p .a) (p .b) (p .c) (p .imm) (seen pc (registers (now (regs .entry)) (now (accumulated .entry)) (now (bounds .entry)))) ⌝ }
 {
     Operands {
         pc,
@@ -38,22 +38,5 @@ pub(crate) fn read<'a>(
         x: registers::bound_at(bounds, p.a),
         y: registers::bound_at(bounds, p.b),
         z: registers::bound_at(bounds, p.c),
-    }
-}
-
-// The immediate in the place of the register c.
-pub(crate) fn immediate(o: Operands) -> Operands
-    ensures { λ r. ⌜ r ≡ record { pc = o .pc; rd = o .rd; imm = o .imm; a = o .a; b = o .b; c = o .imm; x = o .x; y = o .y; z = bitsOf (o .imm) } ⌝ }
-{
-    Operands {
-        pc: o.pc,
-        rd: o.rd,
-        imm: o.imm,
-        a: o.a,
-        b: o.b,
-        c: o.imm,
-        x: o.x,
-        y: o.y,
-        z: bound::from_constant(o.imm),
     }
 }

@@ -12,7 +12,7 @@ writes-requires : tie.Need-writes-requires
 writes-requires c κs = search needs
 
 returns : tie.Need-returns
-returns c = rw (c .writes .ensures, c .before .after-shl .ensures, c .before .before .before .shl .ensures)
+returns c = rw (c .writes .ensures, c .before .after-shl .ensures, c .before .before .shl .ensures)
 
 pub sll-spec : {M : Type 1} → statement M
 sll-spec = tie.close (tie.spec shl-requires after-shl-requires writes-requires returns)

@@ -12,7 +12,7 @@ writes-requires : tie.Need-writes-requires
 writes-requires c κs = search needs
 
 returns : tie.Need-returns
-returns c = rw (c .writes .ensures, c .before .after-sra .ensures, c .before .before .before .sra .ensures)
+returns c = rw (c .writes .ensures, c .before .after-sra .ensures, c .before .before .sra .ensures)
 
 pub sra-spec : {M : Type 1} → statement M
 sra-spec = tie.close (tie.spec sra-requires after-sra-requires writes-requires returns)

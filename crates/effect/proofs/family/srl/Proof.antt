@@ -12,7 +12,7 @@ writes-requires : tie.Need-writes-requires
 writes-requires c κs = search needs
 
 returns : tie.Need-returns
-returns c = rw (c .writes .ensures, c .before .after-srl .ensures, c .before .before .before .shr .ensures)
+returns c = rw (c .writes .ensures, c .before .after-srl .ensures, c .before .before .shr .ensures)
 
 pub srl-spec : {M : Type 1} → statement M
 srl-spec = tie.close (tie.spec shr-requires after-srl-requires writes-requires returns)

@@ -1,3 +1,4 @@
+use Rattle.effect.specs.Effects.{seen}
 use borrow.Author.Needs.{needs}
 use Rattle.effect.proofs.operands.read.Statement.{statement}
 use Rattle.effect.proofs.operands.read.Tie as tie
@@ -21,6 +22,7 @@ bound-at-requires-3 : tie.Need-bound-at-requires-3
 bound-at-requires-3 c κs = search needs
 
 returns : tie.Need-returns
+unfolding seen
 returns c = rw (c .bound-at3 .ensures, c .before .bound-at2 .ensures, c .before .before .bound-at .ensures, c .before .before .before .value-at3 .ensures, c .before .before .before .before .value-at2 .ensures, c .before .before .before .before .before .value-at .ensures)
 
 pub read-spec : {M : Type 1} → statement M
