@@ -1,7 +1,6 @@
 use Rattle.effect.specs.Operations.{divided, result, registerForm, moves, taken, storeSize}
 use Rattle.effect.specs.Notes.{resultBits}
 use Rattle.effect.specs.Effects.{effect, dividing, moving, loading, storing}
-use borrow.Author.Needs.{needs}
 use Rattle.effect.proofs.effect_by_opcode.Statement.{statement}
 use Rattle.effect.proofs.effect_by_opcode.Tie as tie
 
@@ -209,170 +208,58 @@ pub effect-by-opcode-spec : {M : Type 1} → statement M
 effect-by-opcode-spec =
     tie.close
     (tie.spec
-    (λ c. search needs)
-    (λ c κs. search needs)
-    (λ c. search needs)
-    (λ c κs. search needs)
-    (λ c. search needs)
-    (λ c κs. search needs)
-    (λ c. search needs)
-    (λ c κs. search needs)
-    (λ c. search needs)
-    (λ c κs. search needs)
-    (λ c κs. search needs)
-    (λ c. search needs)
-    (λ c κs. search needs)
-    (λ c κs. search needs)
-    (λ c. search needs)
-    (λ c κs. search needs)
-    (λ c κs. search needs)
-    (λ c. search needs)
-    (λ c κs. search needs)
-    (λ c κs. search needs)
-    (λ c. search needs)
-    (λ c κs. search needs)
-    (λ c κs. search needs)
-    (λ c. search needs)
-    (λ c κs. search needs)
-    (λ c. search needs)
-    (λ c κs. search needs)
-    (λ c. search needs)
-    (λ c κs. search needs)
-    (λ c. search needs)
-    (λ c κs. search needs)
-    (λ c κs. search needs)
-    (λ c. search needs)
-    (λ c κs. search needs)
-    (λ c κs. search needs)
-    (λ c. search needs)
-    (λ c κs. search needs)
-    (λ c κs. search needs)
-    (λ c. search needs)
-    (λ c κs. search needs)
-    (λ c. search needs)
-    (λ c κs. search needs)
-    (λ c. search needs)
-    (λ c κs. search needs)
-    (λ c. search needs)
-    (λ c κs. search needs)
-    (λ c. search needs)
-    (λ c κs. search needs)
-    (λ c. search needs)
-    (λ c κs. search needs)
-    (λ c. search needs)
-    (λ c κs. search needs)
-    (λ c κs. search needs)
-    (λ c. search needs)
-    (λ c κs. search needs)
-    (λ c κs. search needs)
-    (λ c. search needs)
-    (λ c κs. search needs)
-    (λ c κs. search needs)
-    (λ c. search needs)
-    (λ c κs. search needs)
-    (λ c κs. search needs)
-    (λ c. search needs)
-    (λ c κs. search needs)
-    (λ c. search needs)
-    (λ c κs. search needs)
-    (λ c. search needs)
-    (λ c κs. search needs)
-    (λ c. search needs)
-    (λ c κs. search needs)
-    (λ c. search needs)
-    (λ c κs. search needs)
-    (λ c. search needs)
-    (λ c κs. search needs)
-    (λ c. search needs)
-    (λ c κs. search needs)
-    (λ c. search needs)
-    (λ c κs. search needs)
-    (λ c. search needs)
-    (λ c κs. search needs)
-    (λ c. search needs)
-    (λ c κs. search needs)
-    (λ c. search needs)
-    (λ c κs. search needs)
-    (λ c. search needs)
-    (λ c κs. search needs)
-    (λ c. search needs)
-    (λ c κs. search needs)
-    (λ c. search needs)
-    (λ c κs. search needs)
-    (λ c. search needs)
-    (λ c κs. search needs)
-    (λ c. search needs)
-    (λ c κs. search needs)
-    (λ c. search needs)
-    (λ c κs. search needs)
-    (λ c. search needs)
-    (λ c κs. search needs)
-    (λ c κs. search needs)
-    (λ c. search needs)
-    (λ c κs. search needs)
-    (λ c κs. search needs)
-    (λ c. search needs)
-    (λ c κs. search needs)
-    (λ c κs. search needs)
-    (λ c. search needs)
-    (λ c κs. search needs)
-    (λ c κs. search needs)
-    (λ c. search needs)
-    (λ c κs. search needs)
-    (λ c. search needs)
-    (λ c κs. search needs)
-    (λ c. search needs)
-    (λ c κs. search needs)
-    (λ c κs. search needs)
-    (λ c. search needs)
-    (λ c κs. search needs)
-    returns
-    returns-2
-    returns-3
-    returns-4
-    returns-5
-    returns-6
-    returns-7
-    returns-8
-    returns-9
-    returns-10
-    returns-11
-    returns-12
-    returns-13
-    returns-14
-    returns-15
-    returns-16
-    returns-17
-    returns-18
-    returns-19
-    returns-20
-    returns-21
-    returns-22
-    returns-23
-    returns-24
-    returns-25
-    returns-26
-    returns-27
-    returns-28
-    returns-29
-    returns-30
-    returns-31
-    returns-32
-    returns-33
-    returns-34
-    returns-35
-    returns-36
-    returns-37
-    returns-38
-    returns-39
-    returns-40
-    returns-41
-    returns-42
-    returns-43
-    returns-44
-    returns-45
-    returns-46
-    returns-47
-    returns-48
-    returns-49
-    returns-50)
+    (λ c. c .match .keys1) (λ c κs. tt)
+    (λ c. c .match .keys2) (λ c κs. tt)
+    (λ c. c .match .keys3) (λ c κs. tt)
+    (λ c. c .match .keys4) (λ c κs. tt)
+    (λ c. c .match .keys5) (λ c κs. tt) (λ c κs. tt)
+    (λ c. c .match .keys6) (λ c κs. tt) (λ c κs. tt)
+    (λ c. c .match .keys7) (λ c κs. tt) (λ c κs. tt)
+    (λ c. c .match .keys8) (λ c κs. tt) (λ c κs. tt)
+    (λ c. c .match .keys9) (λ c κs. tt) (λ c κs. tt)
+    (λ c. c .match .keys10) (λ c κs. tt)
+    (λ c. c .match .keys11) (λ c κs. tt)
+    (λ c. c .match .keys12) (λ c κs. tt)
+    (λ c. c .match .keys13) (λ c κs. tt) (λ c κs. tt)
+    (λ c. c .match .keys14) (λ c κs. tt) (λ c κs. tt)
+    (λ c. c .match .keys15) (λ c κs. tt) (λ c κs. tt)
+    (λ c. c .match .keys16) (λ c κs. tt)
+    (λ c. c .match .keys17) (λ c κs. tt)
+    (λ c. c .match .keys18) (λ c κs. tt)
+    (λ c. c .match .keys19) (λ c κs. tt)
+    (λ c. c .match .keys20) (λ c κs. tt)
+    (λ c. c .match .keys21) (λ c κs. tt)
+    (λ c. c .match .keys22) (λ c κs. tt) (λ c κs. tt)
+    (λ c. c .match .keys23) (λ c κs. tt) (λ c κs. tt)
+    (λ c. c .match .keys24) (λ c κs. tt) (λ c κs. tt)
+    (λ c. c .match .keys25) (λ c κs. tt) (λ c κs. tt)
+    (λ c. c .match .keys26) (λ c κs. tt)
+    (λ c. c .match .keys27) (λ c κs. tt)
+    (λ c. c .match .keys28) (λ c κs. tt)
+    (λ c. c .match .keys29) (λ c κs. tt)
+    (λ c. c .match .keys30) (λ c κs. tt)
+    (λ c. c .match .keys31) (λ c κs. tt)
+    (λ c. c .match .keys32) (λ c κs. tt)
+    (λ c. c .match .keys33) (λ c κs. tt)
+    (λ c. c .match .keys34) (λ c κs. tt)
+    (λ c. c .match .keys35) (λ c κs. tt)
+    (λ c. c .match .keys36) (λ c κs. tt)
+    (λ c. c .match .keys37) (λ c κs. tt)
+    (λ c. c .match .keys38) (λ c κs. tt)
+    (λ c. c .match .keys39) (λ c κs. tt)
+    (λ c. c .match .keys40) (λ c κs. tt)
+    (λ c. c .match .keys41) (λ c κs. tt)
+    (λ c. c .match .keys42) (λ c κs. tt)
+    (λ c. c .match .keys43) (λ c κs. tt) (λ c κs. tt)
+    (λ c. c .match .keys44) (λ c κs. tt) (λ c κs. tt)
+    (λ c. c .match .keys45) (λ c κs. tt) (λ c κs. tt)
+    (λ c. c .match .keys46) (λ c κs. tt) (λ c κs. tt)
+    (λ c. c .match .keys47) (λ c κs. tt)
+    (λ c. c .match .keys48) (λ c κs. tt)
+    (λ c. c .match .keys49) (λ c κs. tt) (λ c κs. tt)
+    (λ c. c .match .keys50) (λ c κs. tt)
+    returns returns-2 returns-3 returns-4 returns-5 returns-6 returns-7 returns-8 returns-9 returns-10
+    returns-11 returns-12 returns-13 returns-14 returns-15 returns-16 returns-17 returns-18 returns-19 returns-20
+    returns-21 returns-22 returns-23 returns-24 returns-25 returns-26 returns-27 returns-28 returns-29 returns-30
+    returns-31 returns-32 returns-33 returns-34 returns-35 returns-36 returns-37 returns-38 returns-39 returns-40
+    returns-41 returns-42 returns-43 returns-44 returns-45 returns-46 returns-47 returns-48 returns-49 returns-50)
