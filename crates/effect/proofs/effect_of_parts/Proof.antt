@@ -1,14 +1,13 @@
 use Rattle.effect.specs.Effects.{seen}
 use Rattle.state.specs.Registers.{registers}
-use borrow.Author.Needs.{needs}
 use Rattle.effect.proofs.effect_of_parts.Statement.{statement}
 use Rattle.effect.proofs.effect_of_parts.Tie as tie
 
 read-requires : tie.Need-read-requires
-read-requires c κs = search needs
+read-requires c κs = tt
 
 effect-by-opcode-requires : tie.Need-effect-by-opcode-requires
-effect-by-opcode-requires c κs = search needs
+effect-by-opcode-requires c κs = tt
 
 returns : tie.Need-returns
 returns c =

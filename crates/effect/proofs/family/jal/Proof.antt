@@ -1,12 +1,11 @@
-use borrow.Author.Needs.{needs}
 use Rattle.effect.proofs.family.jal.Statement.{statement}
 use Rattle.effect.proofs.family.jal.Tie as tie
 
 plus-requires : tie.Need-plus-requires
-plus-requires c κs = search needs
+plus-requires c κs = tt
 
 link-requires : tie.Need-link-requires
-link-requires c κs = search needs
+link-requires c κs = tt
 
 returns : tie.Need-returns
 returns c = rw (c .link .ensures, c .before .plus .ensures)

@@ -3,13 +3,13 @@ use Rattle.effect.proofs.family.jalr.Statement.{statement}
 use Rattle.effect.proofs.family.jalr.Tie as tie
 
 plus-requires : tie.Need-plus-requires
-plus-requires c κs = search needs
+plus-requires c κs = tt
 
 mul-link : tie.Need-mul-link
 mul-link c = search needs
 
 link-requires : tie.Need-link-requires
-link-requires c κs = search needs
+link-requires c κs = tt
 
 returns : tie.Need-returns
 returns c = rw (c .link .ensures, c .before .plus .ensures)

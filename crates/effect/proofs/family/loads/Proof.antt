@@ -1,18 +1,17 @@
-use borrow.Author.Needs.{needs}
 use Rattle.effect.proofs.family.loads.Statement.{statement}
 use Rattle.effect.proofs.family.loads.Tie as tie
 
 plus-requires : tie.Need-plus-requires
-plus-requires c κs = search needs
+plus-requires c κs = tt
 
 load-size-requires : tie.Need-load-size-requires
-load-size-requires c κs = search needs
+load-size-requires c κs = tt
 
 load-requires : tie.Need-load-requires
-load-requires c κs = search needs
+load-requires c κs = tt
 
 loads-value-requires : tie.Need-loads-value-requires
-loads-value-requires c κs = search needs
+loads-value-requires c κs = tt
 
 returns : tie.Need-returns
 returns c = rw (c .loads-value .ensures, c .before .load .ensures, c .before .before .load-size .ensures, c .before .before .before .plus .ensures)

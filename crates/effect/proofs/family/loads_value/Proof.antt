@@ -1,22 +1,21 @@
 use Rattle.effect.specs.Effects.{onLoaded}
-use borrow.Author.Needs.{needs}
 use Rattle.effect.proofs.family.loads_value.Statement.{statement}
 use Rattle.effect.proofs.family.loads_value.Tie as tie
 
 enum-known-l : tie.Need-enum-known-l
-enum-known-l c = search needs
+enum-known-l c = c .match .keys1
 
 loaded-requires : tie.Need-loaded-requires
-loaded-requires c κs = search needs
+loaded-requires c κs = tt
 
 load-bits-requires : tie.Need-load-bits-requires
-load-bits-requires c κs = search needs
+load-bits-requires c κs = tt
 
 writes-requires : tie.Need-writes-requires
-writes-requires c κs = search needs
+writes-requires c κs = tt
 
 enum-known-l-2 : tie.Need-enum-known-l-2
-enum-known-l-2 c = search needs
+enum-known-l-2 c = c .match .keys2
 
 returns : tie.Need-returns
 unfolding onLoaded

@@ -1,26 +1,25 @@
 use Rattle.effect.specs.Effects.{onStorable}
 use mathlib.Core.Path.{sym, _∙_}
-use borrow.Author.Needs.{needs}
 use Rattle.effect.proofs.family.stores.Statement.{statement}
 use Rattle.effect.proofs.family.stores.Tie as tie
 
 plus-requires : tie.Need-plus-requires
-plus-requires c κs = search needs
+plus-requires c κs = tt
 
 storable-requires : tie.Need-storable-requires
-storable-requires c κs = search needs
+storable-requires c κs = tt
 
 enum-told : tie.Need-enum-told
-enum-told c = search needs
+enum-told c = c .match .keys1
 
 following-requires : tie.Need-following-requires
-following-requires c κs = search needs
+following-requires c κs = tt
 
 stores-at-requires : tie.Need-stores-at-requires
-stores-at-requires c κs = search needs
+stores-at-requires c κs = tt
 
 enum-known-r : tie.Need-enum-known-r
-enum-known-r c = search needs
+enum-known-r c = c .match .keys2
 
 returns : tie.Need-returns
 unfolding onStorable

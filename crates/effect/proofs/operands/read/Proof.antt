@@ -1,25 +1,24 @@
 use Rattle.effect.specs.Effects.{seen}
-use borrow.Author.Needs.{needs}
 use Rattle.effect.proofs.operands.read.Statement.{statement}
 use Rattle.effect.proofs.operands.read.Tie as tie
 
 value-at-requires : tie.Need-value-at-requires
-value-at-requires c κs = search needs
+value-at-requires c κs = tt
 
 value-at-requires-2 : tie.Need-value-at-requires-2
-value-at-requires-2 c κs = search needs
+value-at-requires-2 c κs = tt
 
 value-at-requires-3 : tie.Need-value-at-requires-3
-value-at-requires-3 c κs = search needs
+value-at-requires-3 c κs = tt
 
 bound-at-requires : tie.Need-bound-at-requires
-bound-at-requires c κs = search needs
+bound-at-requires c κs = tt
 
 bound-at-requires-2 : tie.Need-bound-at-requires-2
-bound-at-requires-2 c κs = search needs
+bound-at-requires-2 c κs = tt
 
 bound-at-requires-3 : tie.Need-bound-at-requires-3
-bound-at-requires-3 c κs = search needs
+bound-at-requires-3 c κs = tt
 
 returns : tie.Need-returns
 unfolding seen
