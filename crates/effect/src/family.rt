@@ -97,28 +97,28 @@ fn stores_at(size: Size, address: u64, value: u64, next: u64) -> Outcome
 }
 
 pub(crate) fn add(o: Operands) -> Outcome
-    ensures { λ r. ⌜ r ≡ writesChecked (o .rd) (add40 (o .b) (o .c)) (afterAdd (o .y) (o .z)) (plus64 (o .pc) 4) ⌝ }
+    ensures { λ r. ⌜ r ≡ writesChecked (o .rd) (add40 (o .s) (o .t)) (afterAdd (o .y) (o .z)) (plus64 (o .pc) 4) ⌝ }
 {
-    writes_checked(o, value::forty::add(o.b, o.c), bound::after_add(o.y, o.z))
+    writes_checked(o, value::forty::add(o.s, o.t), bound::after_add(o.y, o.z))
 }
 
 // Addi needs no check.
 pub(crate) fn add_unchecked(o: Operands, t: u64, bound: u8) -> Outcome
-    ensures { λ r. ⌜ r ≡ writes (o .rd) (add40 (o .b) t) (afterAdd (o .y) bound) (plus64 (o .pc) 4) ⌝ }
+    ensures { λ r. ⌜ r ≡ writes (o .rd) (add40 (o .s) t) (afterAdd (o .y) bound) (plus64 (o .pc) 4) ⌝ }
 {
-    writes(o, value::forty::add(o.b, t), bound::after_add(o.y, bound))
+    writes(o, value::forty::add(o.s, t), bound::after_add(o.y, bound))
 }
 
 pub(crate) fn sub(o: Operands) -> Outcome
-    ensures { λ r. ⌜ r ≡ writes (o .rd) (sub40 (o .b) (o .c)) (afterSub (o .y) (o .z)) (plus64 (o .pc) 4) ⌝ }
+    ensures { λ r. ⌜ r ≡ writes (o .rd) (sub40 (o .s) (o .t)) (afterSub (o .y) (o .z)) (plus64 (o .pc) 4) ⌝ }
 {
-    writes(o, value::forty::sub(o.b, o.c), bound::after_sub(o.y, o.z))
+    writes(o, value::forty::sub(o.s, o.t), bound::after_sub(o.y, o.z))
 }
 
 pub(crate) fn mul(o: Operands) -> Outcome
-    ensures { λ r. ⌜ r ≡ writesChecked (o .rd) (mul40 (o .b) (o .c)) (afterMul (o .y) (o .z)) (plus64 (o .pc) 4) ⌝ }
+    ensures { λ r. ⌜ r ≡ writesChecked (o .rd) (mul40 (o .s) (o .t)) (afterMul (o .y) (o .z)) (plus64 (o .pc) 4) ⌝ }
 {
-    writes_checked(o, value::forty::mul(o.b, o.c), bound::after_mul(o.y, o.z))
+    writes_checked(o, value::forty::mul(o.s, o.t), bound::after_mul(o.y, o.z))
 }
 
 pub(crate) fn mulh(o: Operands, high: u64) -> Outcome
@@ -128,39 +128,39 @@ pub(crate) fn mulh(o: Operands, high: u64) -> Outcome
 }
 
 pub(crate) fn and(o: Operands, t: u64, bound: u8) -> Outcome
-    ensures { λ r. ⌜ r ≡ writes (o .rd) (and40 (o .b) t) (afterAnd (o .y) bound) (plus64 (o .pc) 4) ⌝ }
+    ensures { λ r. ⌜ r ≡ writes (o .rd) (and40 (o .s) t) (afterAnd (o .y) bound) (plus64 (o .pc) 4) ⌝ }
 {
-    writes(o, value::forty::and(o.b, t), bound::after_and(o.y, bound))
+    writes(o, value::forty::and(o.s, t), bound::after_and(o.y, bound))
 }
 
 pub(crate) fn or(o: Operands, t: u64, bound: u8) -> Outcome
-    ensures { λ r. ⌜ r ≡ writes (o .rd) (or40 (o .b) t) (afterSub (o .y) bound) (plus64 (o .pc) 4) ⌝ }
+    ensures { λ r. ⌜ r ≡ writes (o .rd) (or40 (o .s) t) (afterSub (o .y) bound) (plus64 (o .pc) 4) ⌝ }
 {
-    writes(o, value::forty::or(o.b, t), bound::after_sub(o.y, bound))
+    writes(o, value::forty::or(o.s, t), bound::after_sub(o.y, bound))
 }
 
 pub(crate) fn xor(o: Operands, t: u64, bound: u8) -> Outcome
-    ensures { λ r. ⌜ r ≡ writes (o .rd) (xor40 (o .b) t) (afterSub (o .y) bound) (plus64 (o .pc) 4) ⌝ }
+    ensures { λ r. ⌜ r ≡ writes (o .rd) (xor40 (o .s) t) (afterSub (o .y) bound) (plus64 (o .pc) 4) ⌝ }
 {
-    writes(o, value::forty::xor(o.b, t), bound::after_sub(o.y, bound))
+    writes(o, value::forty::xor(o.s, t), bound::after_sub(o.y, bound))
 }
 
 pub(crate) fn sll(o: Operands, t: u64) -> Outcome
-    ensures { λ r. ⌜ r ≡ writes (o .rd) (shl40 (o .b) (t % 64)) (afterShl (o .y) (t % 64)) (plus64 (o .pc) 4) ⌝ }
+    ensures { λ r. ⌜ r ≡ writes (o .rd) (shl40 (o .s) (t % 64)) (afterShl (o .y) (t % 64)) (plus64 (o .pc) 4) ⌝ }
 {
     writes(
         o,
-        value::forty::shl(o.b, t % 64),
+        value::forty::shl(o.s, t % 64),
         bound::after_shl(o.y, t % 64),
     )
 }
 
 pub(crate) fn srl(o: Operands, t: u64) -> Outcome
-    ensures { λ r. ⌜ r ≡ writes (o .rd) (shr40 (o .b) (t % 64)) (afterSrl (o .y) (t % 64)) (plus64 (o .pc) 4) ⌝ }
+    ensures { λ r. ⌜ r ≡ writes (o .rd) (shr40 (o .s) (t % 64)) (afterSrl (o .y) (t % 64)) (plus64 (o .pc) 4) ⌝ }
 {
     writes(
         o,
-        value::forty::shr(o.b, t % 64),
+        value::forty::shr(o.s, t % 64),
         bound::after_srl(o.y, t % 64),
     )
 }
@@ -185,19 +185,19 @@ pub(crate) fn sets(o: Operands, t: bool) -> Outcome
 
 // The quotient or remainder is given; that of a divisor 0 is not looked at.
 pub(crate) fn divides(o: Operands, value: u64) -> Outcome
-    ensures { λ r. ⌜ r ≡ cond (eqb (o .c) 0) (Refuses (refusalOf 1 (o .pc))) (writes (o .rd) value (afterDiv (o .y)) (plus64 (o .pc) 4)) ⌝ }
+    ensures { λ r. ⌜ r ≡ cond (eqb (o .t) 0) (Refuses (refusalOf 1 (o .pc))) (writes (o .rd) value (afterDiv (o .y)) (plus64 (o .pc) 4)) ⌝ }
 {
-    if o.c == 0 {
+    if o.t == 0 {
         return Outcome::Refuses(Refusal::DivisorZero { pc: o.pc });
     }
     writes(o, value, bound::after_div(o.y))
 }
 
 pub(crate) fn moves(o: Operands, happens: bool) -> Outcome
-    ensures { λ r. ⌜ r ≡ cond happens (writes (o .rd) (o .b) (afterMove (o .y) (o .x)) (plus64 (o .pc) 4)) (goesTo (plus64 (o .pc) 4) On) ⌝ }
+    ensures { λ r. ⌜ r ≡ cond happens (writes (o .rd) (o .s) (afterMove (o .y) (o .x)) (plus64 (o .pc) 4)) (goesTo (plus64 (o .pc) 4) On) ⌝ }
 {
     if happens {
-        return writes(o, o.b, bound::after_move(o.y, o.x));
+        return writes(o, o.s, bound::after_move(o.y, o.x));
     }
     goes_to(following(o.pc), Goes::On)
 }
@@ -212,18 +212,18 @@ fn loads_value(op: LoadKind, o: Operands, l: Loaded) -> Outcome
 }
 
 pub(crate) fn loads(op: LoadKind, o: Operands, m: &[u8]) -> Outcome
-    ensures { λ r. ⌜ r ≡ onLoaded (λ v. writes (o .rd) (loaded op v) (afterLoad (sizeOf (loadSize op))) (plus64 (o .pc) 4)) (loadOf (loadSize op) (now (m .entry)) (plus64 (o .b) (o .imm))) ⌝ }
+    ensures { λ r. ⌜ r ≡ onLoaded (λ v. writes (o .rd) (loaded op v) (afterLoad (sizeOf (loadSize op))) (plus64 (o .pc) 4)) (loadOf (loadSize op) (now (m .entry)) (plus64 (o .s) (o .imm))) ⌝ }
 {
-    let l = memory::load(m, value::address::plus(o.b, o.imm), load::load_size(op));
+    let l = memory::load(m, value::address::plus(o.s, o.imm), load::load_size(op));
     loads_value(op, o, l)
 }
 
 pub(crate) fn stores(size: Size, o: Operands, m: &[u8]) -> Outcome
-    ensures { λ r. ⌜ r ≡ onStorable (storesAt size (plus64 (o .a) (o .imm)) (o .b) (plus64 (o .pc) 4)) (storeOf size (length (now (m .entry))) (plus64 (o .a) (o .imm))) ⌝ }
+    ensures { λ r. ⌜ r ≡ onStorable (storesAt size (plus64 (o .s) (o .imm)) (o .t) (plus64 (o .pc) 4)) (storeOf size (length (now (m .entry))) (plus64 (o .s) (o .imm))) ⌝ }
 {
-    let address = value::address::plus(o.a, o.imm);
+    let address = value::address::plus(o.s, o.imm);
     match memory::storable(m.len(), address, size) {
-        Stored::Done => stores_at(size, address, o.b, following(o.pc)),
+        Stored::Done => stores_at(size, address, o.t, following(o.pc)),
         Stored::Refused(r) => Outcome::Refuses(r),
     }
 }
@@ -251,7 +251,7 @@ pub(crate) fn jal(o: Operands) -> Outcome
 }
 
 pub(crate) fn jalr(o: Operands) -> Outcome
-    ensures { λ r. ⌜ r ≡ writes (o .rd) (plus64 (o .pc) 4) (bitsOf (plus64 (o .pc) 4)) (plus64 (o .b) (o .imm) / 2 * 2) ⌝ }
+    ensures { λ r. ⌜ r ≡ writes (o .rd) (plus64 (o .pc) 4) (bitsOf (plus64 (o .pc) 4)) (plus64 (o .s) (o .imm) / 2 * 2) ⌝ }
 {
-    link(o, value::address::plus(o.b, o.imm) / 2 * 2)
+    link(o, value::address::plus(o.s, o.imm) / 2 * 2)
 }
