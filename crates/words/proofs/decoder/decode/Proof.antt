@@ -1,7 +1,7 @@
-use Rattle.instruction.specs.Words.{decodedOf}
+use Rattle.words.specs.Words.{decodedOf}
 use borrow.Author.Needs.{needs}
-use Rattle.instruction.proofs.decoder.decode.Statement.{statement}
-use Rattle.instruction.proofs.decoder.decode.Tie as tie
+use Rattle.words.proofs.decoder.decode.Statement.{statement}
+use Rattle.words.proofs.decoder.decode.Tie as tie
 
 take-requires : tie.Need-take-requires
 take-requires c κs = search needs

@@ -1,8 +1,8 @@
 // Words to instructions.
 use super::Decoded;
-use super::Parts;
+use instruction::Parts;
 use super::Taken;
-use super::operands::joined;
+use instruction::joined;
 use opcode::Found;
 use opcode::Opcode;
 use opcode::form_of;
@@ -14,7 +14,7 @@ ghost use mathlib.Core.Path.{_≡_};
 ghost use Prim.Native.Nat.{_%_};
 ghost use Rattle.encoding.specs.Fields.{field};
 ghost use Rattle.opcode.specs.Opcodes.{opcodeNumber};
-ghost use Rattle.instruction.specs.Words.{apartOf, takeIn, decodeIn};
+ghost use Rattle.words.specs.Words.{apartOf, takeIn, decodeIn};
 
 fn register(x: u32) -> u8
     ensures { λ r. ⌜ r ≡ x % 16 ⌝ }

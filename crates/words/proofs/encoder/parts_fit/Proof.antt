@@ -1,7 +1,7 @@
-use Rattle.instruction.specs.Words.{partsFit}
+use Rattle.words.specs.Words.{partsFit}
 use borrow.Author.Needs.{needs}
-use Rattle.instruction.proofs.encoder.parts_fit.Statement.{statement}
-use Rattle.instruction.proofs.encoder.parts_fit.Tie as tie
+use Rattle.words.proofs.encoder.parts_fit.Statement.{statement}
+use Rattle.words.proofs.encoder.parts_fit.Tie as tie
 
 form-of-requires : tie.Need-form-of-requires
 form-of-requires c κs = search needs

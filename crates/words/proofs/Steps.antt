@@ -6,10 +6,10 @@ use Rattle.encoding.specs.Fields.{field}
 use Rattle.refusal.specs.declared.Refusal.the-variants.{UnusedBits}
 use Rattle.opcode.specs.Opcodes.{formOf}
 use Rattle.opcode.specs.Forms.{usedBits, immediateOf}
-use Rattle.instruction.specs.Words.{apartOf}
+use Rattle.words.specs.Words.{apartOf}
 use Rattle.opcode.specs.declared.Opcode.{Opcode}
 use Rattle.opcode.specs.declared.Form.{Form}
-use Rattle.instruction.specs.declared.Taken.the-variants.{Apart, Refused}
+use Rattle.words.specs.declared.Taken.the-variants.{Apart, Refused}
 
 module _ (op : Opcode) (f : Form) (u w : ℕ) (e : f ≡ formOf op) (h : u ≡ w / 2 ^ usedBits f) where
   pub apart-refused : (u ≡ 0 → ⊥) → Refused (UnusedBits w) ≡ apartOf op w

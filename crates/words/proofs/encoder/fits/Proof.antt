@@ -1,6 +1,6 @@
 use borrow.Author.Needs.{needs}
-use Rattle.instruction.proofs.encoder.fits.Statement.{statement}
-use Rattle.instruction.proofs.encoder.fits.Tie as tie
+use Rattle.words.proofs.encoder.fits.Statement.{statement}
+use Rattle.words.proofs.encoder.fits.Tie as tie
 
 parts-of-requires : tie.Need-parts-of-requires
 parts-of-requires c κs = search needs

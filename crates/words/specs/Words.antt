@@ -7,20 +7,20 @@ use Rattle.encoding.specs.Words.{rWord, iWord, sWord, jWord}
 use Rattle.refusal.specs.Stops.{refusalOf}
 use Rattle.opcode.specs.Opcodes.{formOf, opcodeIn}
 use Rattle.opcode.specs.Forms.{usedBits, immediateOf, immFits}
 use Rattle.instruction.specs.Operands.{joinedOf, partsOf}
 use Rattle.opcode.specs.declared.Opcode.{Opcode}
 use Rattle.opcode.specs.declared.Form.{Form}
 use Rattle.opcode.specs.declared.Form.the-variants.{R, I, Shift, S, B, J, Alone}
 use Rattle.opcode.specs.declared.Found.{Found}
 use Rattle.opcode.specs.declared.Found.the-variants.{Op, Nothing}
 use Rattle.instruction.specs.declared.Instruction.{Instruction}
 use Rattle.instruction.specs.declared.Parts.{Parts}
-use Rattle.instruction.specs.declared.Taken.{Taken}
-use Rattle.instruction.specs.declared.Taken.the-variants as T
-use Rattle.instruction.specs.declared.Decoded.{Decoded}
-use Rattle.instruction.specs.declared.Decoded.the-variants as D
-use Rattle.instruction.specs.declared.Encoded.{Encoded}
-use Rattle.instruction.specs.declared.Encoded.the-variants as E
+use Rattle.words.specs.declared.Taken.{Taken}
+use Rattle.words.specs.declared.Taken.the-variants as T
+use Rattle.words.specs.declared.Decoded.{Decoded}
+use Rattle.words.specs.declared.Decoded.the-variants as D
+use Rattle.words.specs.declared.Encoded.{Encoded}
+use Rattle.words.specs.declared.Encoded.the-variants as E
 
 unfoldable pub apartOf : Opcode → ℕ → Taken
 apartOf op w =

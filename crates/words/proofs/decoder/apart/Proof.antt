@@ -1,7 +1,7 @@
-use Rattle.instruction.proofs.Steps.{apart-refused, apart-made}
+use Rattle.words.proofs.Steps.{apart-refused, apart-made}
 use borrow.Author.Needs.{needs}
-use Rattle.instruction.proofs.decoder.apart.Statement.{statement}
-use Rattle.instruction.proofs.decoder.apart.Tie as tie
+use Rattle.words.proofs.decoder.apart.Statement.{statement}
+use Rattle.words.proofs.decoder.apart.Tie as tie
 
 form-of-requires : tie.Need-form-of-requires
 form-of-requires c κs = search needs

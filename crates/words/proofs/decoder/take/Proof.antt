@@ -1,7 +1,7 @@
-use Rattle.instruction.specs.Words.{takeIn, foundApart}
+use Rattle.words.specs.Words.{takeIn, foundApart}
 use borrow.Author.Needs.{needs}
-use Rattle.instruction.proofs.decoder.take.Statement.{statement}
-use Rattle.instruction.proofs.decoder.take.Tie as tie
+use Rattle.words.proofs.decoder.take.Statement.{statement}
+use Rattle.words.proofs.decoder.take.Tie as tie
 
 low-requires : tie.Need-low-requires
 low-requires c κs = search needs

@@ -2,15 +2,15 @@ use Rattle.opcode.proofs.Variants.{forms, form-place, forms-at}
 use Rattle.opcode.proofs.Arms.{arm}
 use Rattle.opcode.specs.declared.Form.the-variants.{R}
 use Rattle.opcode.specs.declared.Form.{Form}
-use Rattle.instruction.specs.Words.{wordOf}
+use Rattle.words.specs.Words.{wordOf}
 use Rattle.encoding.specs.Words.{iWord}
 use Prim.Native.Nat.{_^_}
 use native.Mathlib.Nat.{mod-mod}
 use mathlib.Core.List.{[], _∷_}
 use mathlib.Core.Path.{refl}
 use borrow.Author.Needs.{needs}
-use Rattle.instruction.proofs.encoder.word_of.Statement.{statement}
-use Rattle.instruction.proofs.encoder.word_of.Tie as tie
+use Rattle.words.proofs.encoder.word_of.Statement.{statement}
+use Rattle.words.proofs.encoder.word_of.Tie as tie
 
 whole-requires : tie.Need-whole-requires
 whole-requires c κs = search needs

@@ -1,8 +1,8 @@
 // Instructions to words.
 use super::Encoded;
-use super::Instruction;
-use super::Parts;
-use super::operands::parts_of;
+use instruction::Instruction;
+use instruction::Parts;
+use instruction::parts_of;
 use encoding::encode_btype;
 use encoding::encode_itype;
 use encoding::encode_jtype;
@@ -16,7 +16,7 @@ use refusal::Refusal;
 ghost use mathlib.Core.Path.{_≡_};
 ghost use Prim.Native.Nat.{_%_, _^_};
 ghost use Rattle.opcode.specs.Opcodes.{opcodeNumber};
-ghost use Rattle.instruction.specs.Words.{partsFit, fitsOf, wordOf, encodedIn, encodeIn};
+ghost use Rattle.words.specs.Words.{partsFit, fitsOf, wordOf, encodedIn, encodeIn};
 
 fn parts_fit(p: Parts) -> bool
     ensures { λ r. ⌜ r ≡ partsFit p ⌝ }

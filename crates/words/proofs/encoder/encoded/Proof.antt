@@ -1,7 +1,7 @@
-use Rattle.instruction.specs.Words.{encodedIn}
+use Rattle.words.specs.Words.{encodedIn}
 use borrow.Author.Needs.{needs}
-use Rattle.instruction.proofs.encoder.encoded.Statement.{statement}
-use Rattle.instruction.proofs.encoder.encoded.Tie as tie
+use Rattle.words.proofs.encoder.encoded.Statement.{statement}
+use Rattle.words.proofs.encoder.encoded.Tie as tie
 
 parts-fit-requires : tie.Need-parts-fit-requires
 parts-fit-requires c κs = search needs

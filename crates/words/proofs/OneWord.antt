@@ -13,21 +13,21 @@ use Rattle.encoding.proofs.Extends.{cut-extended, extended-cut, extended-fits}
 use Rattle.encoding.proofs.Packed.{read-back, read-whole, made-back}
 use Rattle.refusal.specs.declared.Refusal.the-variants.{UnusedBits, Malformed}
 use Rattle.opcode.specs.Opcodes.{opcodeNumber, formOf, all, opcodeIn}
 use Rattle.instruction.specs.Operands.{joinedOf, partsOf}
 use Rattle.opcode.specs.Forms.{usedBits, immediateOf, immFits}
-use Rattle.instruction.specs.Words.{apartOf, foundApart, takeIn, decodedOf, decodeIn, partsFit, wordOf, encodedIn, encodeIn}
+use Rattle.words.specs.Words.{apartOf, foundApart, takeIn, decodedOf, decodeIn, partsFit, wordOf, encodedIn, encodeIn}
 use Rattle.opcode.specs.declared.Opcode.{Opcode}
 use Rattle.opcode.specs.declared.Form.{Form}
 use Rattle.opcode.specs.declared.Form.the-variants.{R, I, Shift, S, B, J, Alone}
 use Rattle.opcode.specs.declared.Found.{Found}
 use Rattle.opcode.specs.declared.Found.the-variants.{Op, Nothing}
 use Rattle.instruction.specs.declared.Instruction.{Instruction}
 use Rattle.instruction.specs.declared.Parts.{Parts}
-use Rattle.instruction.specs.declared.Taken.the-variants as T
-use Rattle.instruction.specs.declared.Decoded.the-variants as D
-use Rattle.instruction.specs.declared.Encoded.the-variants as E
+use Rattle.words.specs.declared.Taken.the-variants as T
+use Rattle.words.specs.declared.Decoded.the-variants as D
+use Rattle.words.specs.declared.Encoded.the-variants as E
 use Rattle.opcode.proofs.Numberings.{Numbering, found, number-found, opcodeNumber-numbers}
 use Rattle.instruction.proofs.Wholes.{kept, kept-op, joined-parts, parts-joined, joined-kept, parts-kept}
 
 -- ---- what fits
 
