@@ -1,8 +1,8 @@
 use native.Mathlib.Omega.{arith}
 use Prim.Native.Nat.{_^_}
 use borrow.Author.Tests.{le-leb, lt-leb}
-use Rattle.state.proofs.normalize.would_overflow.Statement.{statement}
-use Rattle.state.proofs.normalize.would_overflow.Tie as tie
+use Rattle.normalize.proofs.would_overflow.Statement.{statement}
+use Rattle.normalize.proofs.would_overflow.Tie as tie
 
 returns : tie.Need-returns
 returns c = rw (le-leb (2 ^ 30) (c .before .args .low) (omega arith))

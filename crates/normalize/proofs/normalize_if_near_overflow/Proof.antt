@@ -1,11 +1,12 @@
-use Rattle.state.proofs.Cases.{waits-held, near-malformed, near-whole, near-limbs}
+use Rattle.state.proofs.Normal.{waits-held}
+use Rattle.normalize.proofs.Cases.{near-malformed, near-whole, near-limbs}
 use mathlib.Core.Bool.{true, false}
 use mathlib.Core.Path.{sym, _∙_}
 use native.Mathlib.Omega.{arith}
 use borrow.Author.Tests.{not-true, not-false}
 use borrow.Author.Needs.{needs}
-use Rattle.state.proofs.normalize.normalize_if_near_overflow.Statement.{statement}
-use Rattle.state.proofs.normalize.normalize_if_near_overflow.Tie as tie
+use Rattle.normalize.proofs.normalize_if_near_overflow.Statement.{statement}
+use Rattle.normalize.proofs.normalize_if_near_overflow.Tie as tie
 
 malformed-requires : tie.Need-malformed-requires
 malformed-requires c κs = search needs

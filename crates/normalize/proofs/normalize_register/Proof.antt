@@ -1,10 +1,11 @@
-use Rattle.state.proofs.Cases.{waits-held, register-malformed, register-zero, register-whole, register-done}
+use Rattle.state.proofs.Normal.{waits-held}
+use Rattle.normalize.proofs.Cases.{register-malformed, register-zero, register-whole, register-done}
 use mathlib.Core.Path.{sym, _∙_}
 use native.Mathlib.Omega.{arith}
 use borrow.Author.Tests.{not-true, not-false}
 use borrow.Author.Needs.{needs}
-use Rattle.state.proofs.normalize.normalize_register.Statement.{statement}
-use Rattle.state.proofs.normalize.normalize_register.Tie as tie
+use Rattle.normalize.proofs.normalize_register.Statement.{statement}
+use Rattle.normalize.proofs.normalize_register.Tie as tie
 
 malformed-requires : tie.Need-malformed-requires
 malformed-requires c κs = search needs

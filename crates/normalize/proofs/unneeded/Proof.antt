@@ -1,6 +1,6 @@
 use borrow.Author.Needs.{needs}
-use Rattle.state.proofs.normalize.unneeded.Statement.{statement}
-use Rattle.state.proofs.normalize.unneeded.Tie as tie
+use Rattle.normalize.proofs.unneeded.Statement.{statement}
+use Rattle.normalize.proofs.unneeded.Tie as tie
 
 zeros-requires : tie.Need-zeros-requires
 zeros-requires c κs = search needs

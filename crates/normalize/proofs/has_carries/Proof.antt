@@ -2,8 +2,8 @@ use native.Mathlib.Omega.{arith}
 use lib.ListN.{getD}
 use borrow.Author.Tests.{eq-eqb, ne-eqb}
 use borrow.Author.Needs.{needs}
-use Rattle.state.proofs.normalize.has_carries.Statement.{statement}
-use Rattle.state.proofs.normalize.has_carries.Tie as tie
+use Rattle.normalize.proofs.has_carries.Statement.{statement}
+use Rattle.normalize.proofs.has_carries.Tie as tie
 
 array-read-if1 : tie.Need-array-read-if1
 array-read-if1 c = search needs

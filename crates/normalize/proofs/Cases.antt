@@ -5,17 +5,12 @@ use mathlib.Core.Bool.{Bool, true, false, cond, _||_}
 use native.Mathlib.Omega.{arith}
 use lib.Dec.{leb}
 use borrow.Author.Tests.{lt-ltb, le-ltb, ne-eqb, leb-false}
-use Rattle.state.specs.Held.{lowOf, highOf, waits, heldOf, kept, normal, joined}
+use Rattle.state.specs.Held.{lowOf, highOf, waits, kept, normal, joined}
 use Rattle.state.specs.Registers.{Registers, holds, noted, place, normalise}
 use Rattle.state.specs.Formed.{registersOf}
-use Rattle.state.specs.Normalizing.{resultOf, zeros, wouldOverflow, withRegisters, unneeded, malformed, normalizedTo, normalizeRegister, normalizeAndWrite, normalizeIfNearOverflow}
+use Rattle.normalize.specs.Normalizing.{resultOf, zeros, wouldOverflow, withRegisters, unneeded, malformed, normalizedTo, normalizeRegister, normalizeAndWrite, normalizeIfNearOverflow}
 use Rattle.state.specs.declared.State.{State}
-use Rattle.state.specs.declared.normalize.NormalizationResult.{NormalizationResult}
-
-pub waits-held : (f : Bool) (v : ℕ) → waits (heldOf f v) ≡ f
-unfolding waits heldOf
-waits-held true v = refl
-waits-held false v = refl
+use Rattle.normalize.specs.declared.NormalizationResult.{NormalizationResult}
 
 done : (s : State) {r t : NormalizationResult} {R S : Registers} → r ≡ t → R ≡ S → normalizedTo r (withRegisters s R) ≡ normalizedTo t (withRegisters s S)
 done s {r} {t} {R} {S} e f = rw (e, f)

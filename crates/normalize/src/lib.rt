@@ -1,10 +1,10 @@
 // normalize.rs, over a state by value, at limbs of 20 and 30 bits.
-use crate::State;
-use crate::registers;
 use refusal::Refusal;
+use state::State;
+use state::registers;
 ghost use mathlib.Core.Path.{_≡_};
 ghost use Prim.Native.Nat.{_<_, _^_};
-ghost use Rattle.state.specs.Normalizing.{resultOf, zeros, unneeded, malformed, hasCarries, totalCarry, wouldOverflow, normalizeRegister, normalizeAndWrite, normalizeIfNearOverflow};
+ghost use Rattle.normalize.specs.Normalizing.{resultOf, zeros, unneeded, malformed, hasCarries, totalCarry, wouldOverflow, normalizeRegister, normalizeAndWrite, normalizeIfNearOverflow};
 
 // The limbs before, the limbs after, and the carry out of each.
 pub struct NormalizationResult {

@@ -1,9 +1,9 @@
-use Rattle.state.proofs.Cases.{write-malformed, write-zero, write-large, write-done, none-large}
+use Rattle.normalize.proofs.Cases.{write-malformed, write-zero, write-large, write-done, none-large}
 use mathlib.Core.Path.{sym, _∙_}
 use native.Mathlib.Omega.{arith}
 use borrow.Author.Needs.{needs}
-use Rattle.state.proofs.normalize.normalize_and_write.Statement.{statement}
-use Rattle.state.proofs.normalize.normalize_and_write.Tie as tie
+use Rattle.normalize.proofs.normalize_and_write.Statement.{statement}
+use Rattle.normalize.proofs.normalize_and_write.Tie as tie
 
 malformed-requires : tie.Need-malformed-requires
 malformed-requires c κs = search needs

@@ -5,13 +5,13 @@ use mathlib.Core.List.{[], _∷_}
 use lib.ListN.{getD}
 use lib.Dec.{ltb, leb, eqb}
 use Rattle.refusal.specs.Stops.{refusalOf}
 use Rattle.state.specs.Held.{Whole, lowOf, highOf, waits, normal, joined}
 use Rattle.state.specs.Registers.{Registers, holds, noted, put, normalise}
 use Rattle.state.specs.Formed.{registersOf}
 use Rattle.state.specs.declared.State.{State}
-use Rattle.state.specs.declared.normalize.NormalizationResult.{NormalizationResult}
-use Rattle.state.specs.declared.normalize.Normalized.{Normalized}
-use Rattle.state.specs.declared.normalize.Normalizing.the-variants.{Unneeded, Done, Refused}
+use Rattle.normalize.specs.declared.NormalizationResult.{NormalizationResult}
+use Rattle.normalize.specs.declared.Normalized.{Normalized}
+use Rattle.normalize.specs.declared.Normalizing.the-variants.{Unneeded, Done, Refused}
 
 abbrev pub resultOf : ℕ → ℕ → NormalizationResult
 resultOf low high =

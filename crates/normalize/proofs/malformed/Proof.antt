@@ -1,6 +1,6 @@
 use borrow.Author.Needs.{needs}
-use Rattle.state.proofs.normalize.malformed.Statement.{statement}
-use Rattle.state.proofs.normalize.malformed.Tie as tie
+use Rattle.normalize.proofs.malformed.Statement.{statement}
+use Rattle.normalize.proofs.malformed.Tie as tie
 
 zeros-requires : tie.Need-zeros-requires
 zeros-requires c κs = search needs
