@@ -4,7 +4,7 @@ use native.Mathlib.Omega.{arith}
 use native.Mathlib.Nat.{not-suc-le-zero}
 use mathlib.Core.Path.{_≡_, refl, sym, ap, _∙_}
 use mathlib.Core.Bool.{Bool, true, false, cond, _&&_}
-use mathlib.Core.List.{List, [], _∷_, map}
+use mathlib.Core.List.{List, [], _∷_, _++_, map}
 use lib.ListN.{length, getD, List·getD-map}
 use lib.Dec.{T, eqb, ltb, leb, eqb→eq}
 use mir.Facts.{and-yes}
@@ -59,15 +59,16 @@ module _ (num : Opcode → ℕ) where
   Unlike U [] n = U
   Unlike U (o ∷ os) n = Unlike (U × (n ≡ num o → ⊥)) os n
 
-  none-after : (U : Type 0) (os : List Opcode) (n : ℕ) → Unlike U os n → U × (firstIn num os n ≡ Nothing)
+  past-after : (U : Type 0) (os ps : List Opcode) (n : ℕ) → Unlike U os n → U × (firstIn num (os ++ ps) n ≡ firstIn num ps n)
   unfolding firstIn
-  none-after U [] n u = (u, refl)
-  none-after U (o ∷ os) n u =
-      let h = none-after (U × (n ≡ num o → ⊥)) os n u in
+  past-after U [] ps n u = (u, refl)
+  past-after U (o ∷ os) ps n u =
+      let h = past-after (U × (n ≡ num o → ⊥)) os ps n u in
       (h .0 .0, rw (ne-eqb n (num o) (h .0 .1)) (h .1))
 
-  pub none : (n : ℕ) → Unlike (Unit {0}) all n → opcodeIn num n ≡ Nothing
-  none n u = none-after (Unit {0}) all n u .1
+  -- and so its opcode is found behind them, if at all
+  pub past : (os ps : List Opcode) (n : ℕ) → Unlike (Unit {0}) os n → firstIn num (os ++ ps) n ≡ firstIn num ps n
+  past os ps n u = past-after (Unit {0}) os ps n u .1
 
 pub opcodeNumber-numbers : Numbering opcodeNumber
 unfolding all

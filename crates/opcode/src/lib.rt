@@ -1,8 +1,9 @@
 // The fifty opcodes (document 01, "Words"): their numbers, and how an instruction of each lies in its word.
-pub mod forms;
-
 ghost use mathlib.Core.Path.{_≡_};
-ghost use Rattle.opcode.specs.Opcodes.{opcodeNumber, formOf, opcodeIn};
+ghost use mathlib.Core.Bool.{true};
+ghost use lib.Dec.{leb};
+ghost use lib.ListN.{drop};
+ghost use Rattle.opcode.specs.Opcodes.{opcodeNumber, all, firstIn, opcodeIn};
 
 // The fifty, in document 01's order.
 pub enum Opcode {
@@ -104,6 +105,15 @@ pub fn number(op: Opcode) -> u8
         Opcode::Sltu => 23,
         Opcode::Sge => 24,
         Opcode::Sgeu => 25,
+        _ => number_from_26(op),
+    }
+}
+
+// Of the opcodes from Seq on.
+fn number_from_26(op: Opcode) -> u8
+    ensures { λ r. ⌜ (leb 26 (opcodeNumber op) ≡ true → r ≡ opcodeNumber op) ⌝ }
+{
+    match op {
         Opcode::Seq => 26,
         Opcode::Sne => 27,
         Opcode::Cmov => 28,
@@ -128,11 +138,11 @@ pub fn number(op: Opcode) -> u8
         Opcode::Jal => 47,
         Opcode::Jalr => 48,
         Opcode::Ecall => 49,
-        Opcode::Ebreak => 50,
+        _ => 50,
     }
 }
 
-// One range test when compiled: the variants stand in the order of their numbers.
+// One range test when compiled: the variants stand in the order of their numbers, and the two matches become one.
 pub fn opcode_of(n: u8) -> Found
     ensures { λ r. ⌜ r ≡ opcodeIn opcodeNumber n ⌝ }
 {
@@ -162,6 +172,14 @@ pub fn opcode_of(n: u8) -> Found
         23 => Found::Op(Opcode::Sltu),
         24 => Found::Op(Opcode::Sge),
         25 => Found::Op(Opcode::Sgeu),
+        _ => opcode_from_26(n),
+    }
+}
+
+fn opcode_from_26(n: u8) -> Found
+    ensures { λ r. ⌜ r ≡ firstIn opcodeNumber (drop 25 all) n ⌝ }
+{
+    match n {
         26 => Found::Op(Opcode::Seq),
         27 => Found::Op(Opcode::Sne),
         28 => Found::Op(Opcode::Cmov),
@@ -188,30 +206,5 @@ pub fn opcode_of(n: u8) -> Found
         49 => Found::Op(Opcode::Ecall),
         50 => Found::Op(Opcode::Ebreak),
         _ => Found::Nothing,
-    }
-}
-
-pub fn form_of(op: Opcode) -> Form
-    ensures { λ r. ⌜ r ≡ formOf op ⌝ }
-{
-    match op {
-        Opcode::Addi
-        | Opcode::Andi
-        | Opcode::Ori
-        | Opcode::Xori
-        | Opcode::Lb
-        | Opcode::Lbu
-        | Opcode::Lh
-        | Opcode::Lhu
-        | Opcode::Lw
-        | Opcode::Ld
-        | Opcode::Jalr => Form::I,
-        Opcode::Slli | Opcode::Srli | Opcode::Srai => Form::Shift,
-        Opcode::Sb | Opcode::Sh | Opcode::Sw | Opcode::Sd => Form::S,
-        Opcode::Beq | Opcode::Bne | Opcode::Blt | Opcode::Bge | Opcode::Bltu | Opcode::Bgeu =>
-            Form::B,
-        Opcode::Jal => Form::J,
-        Opcode::Ecall | Opcode::Ebreak => Form::Alone,
-        _ => Form::R,
     }
 }

@@ -14,7 +14,7 @@ use Rattle.encoding.proofs.Packed.{read-back, read-whole, made-back}
 use Rattle.refusal.specs.declared.Refusal.the-variants.{UnusedBits, Malformed}
 use Rattle.opcode.specs.Opcodes.{opcodeNumber, formOf, all, opcodeIn}
 use Rattle.instruction.specs.Operands.{joinedOf, partsOf}
-use Rattle.opcode.specs.Forms.{usedBits, immediateOf, immFits}
+use Rattle.forms.specs.Forms.{usedBits, immediateOf, immFits}
 use Rattle.words.specs.Words.{apartOf, foundApart, takeIn, decodedOf, decodeIn, partsFit, wordOf, encodedIn, encodeIn}
 use Rattle.opcode.specs.declared.Opcode.{Opcode}
 use Rattle.opcode.specs.declared.Form.{Form}

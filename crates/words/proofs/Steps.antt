@@ -5,7 +5,7 @@ use borrow.Author.Tests.{eq-eqb, ne-eqb}
 use Rattle.encoding.specs.Fields.{field}
 use Rattle.refusal.specs.declared.Refusal.the-variants.{UnusedBits}
 use Rattle.opcode.specs.Opcodes.{formOf}
-use Rattle.opcode.specs.Forms.{usedBits, immediateOf}
+use Rattle.forms.specs.Forms.{usedBits, immediateOf}
 use Rattle.words.specs.Words.{apartOf}
 use Rattle.opcode.specs.declared.Opcode.{Opcode}
 use Rattle.opcode.specs.declared.Form.{Form}

@@ -6,7 +6,7 @@ use Rattle.encoding.specs.Fields.{field}
 use Rattle.encoding.specs.Words.{rWord, iWord, sWord, jWord}
 use Rattle.refusal.specs.Stops.{refusalOf}
 use Rattle.opcode.specs.Opcodes.{formOf, opcodeIn}
-use Rattle.opcode.specs.Forms.{usedBits, immediateOf, immFits}
+use Rattle.forms.specs.Forms.{usedBits, immediateOf, immFits}
 use Rattle.instruction.specs.Operands.{joinedOf, partsOf}
 use Rattle.opcode.specs.declared.Opcode.{Opcode}
 use Rattle.opcode.specs.declared.Form.{Form}

@@ -1,13 +1,13 @@
 // Words to instructions.
 use super::Decoded;
-use instruction::Parts;
 use super::Taken;
+use forms::form_of;
+use forms::immediate;
+use forms::unused;
+use instruction::Parts;
 use instruction::joined;
 use opcode::Found;
 use opcode::Opcode;
-use opcode::form_of;
-use opcode::forms::immediate;
-use opcode::forms::unused;
 use opcode::opcode_of;
 use refusal::Refusal;
 ghost use mathlib.Core.Path.{_≡_};

@@ -1,16 +1,16 @@
 // Instructions to words.
 use super::Encoded;
-use instruction::Instruction;
-use instruction::Parts;
-use instruction::parts_of;
 use encoding::encode_btype;
 use encoding::encode_itype;
 use encoding::encode_jtype;
 use encoding::encode_rtype;
 use encoding::encode_stype;
+use forms::form_of;
+use forms::imm_fits;
+use instruction::Instruction;
+use instruction::Parts;
+use instruction::parts_of;
 use opcode::Form;
-use opcode::form_of;
-use opcode::forms::imm_fits;
 use opcode::number;
 use refusal::Refusal;
 ghost use mathlib.Core.Path.{_≡_};

@@ -1,8 +1,13 @@
-use Rattle.opcode.proofs.Numberings.{none}
+use Rattle.opcode.proofs.Numberings.{past}
 use Rattle.opcode.specs.Opcodes.{opcodeNumber, firstIn, all}
-use mathlib.Core.Path.{sym}
+use mathlib.Core.Path.{sym, _∙_}
+use lib.ListN.{take, drop}
+use borrow.Author.Needs.{needs}
 use Rattle.opcode.proofs.opcode_of.Statement.{statement}
 use Rattle.opcode.proofs.opcode_of.Tie as tie
+
+opcode-from-26-requires : tie.Need-opcode-from-26-requires
+opcode-from-26-requires c κs = search needs
 
 returns : tie.Need-returns
 unfolding firstIn all
@@ -105,113 +110,14 @@ unfolding firstIn all
 returns-25 c = rw (c .match .keys25)
 
 returns-26 : tie.Need-returns-26
-unfolding firstIn all
-returns-26 c = rw (c .match .keys26)
-
-returns-27 : tie.Need-returns-27
-unfolding firstIn all
-returns-27 c = rw (c .match .keys27)
-
-returns-28 : tie.Need-returns-28
-unfolding firstIn all
-returns-28 c = rw (c .match .keys28)
-
-returns-29 : tie.Need-returns-29
-unfolding firstIn all
-returns-29 c = rw (c .match .keys29)
-
-returns-30 : tie.Need-returns-30
-unfolding firstIn all
-returns-30 c = rw (c .match .keys30)
-
-returns-31 : tie.Need-returns-31
-unfolding firstIn all
-returns-31 c = rw (c .match .keys31)
-
-returns-32 : tie.Need-returns-32
-unfolding firstIn all
-returns-32 c = rw (c .match .keys32)
-
-returns-33 : tie.Need-returns-33
-unfolding firstIn all
-returns-33 c = rw (c .match .keys33)
-
-returns-34 : tie.Need-returns-34
-unfolding firstIn all
-returns-34 c = rw (c .match .keys34)
-
-returns-35 : tie.Need-returns-35
-unfolding firstIn all
-returns-35 c = rw (c .match .keys35)
-
-returns-36 : tie.Need-returns-36
-unfolding firstIn all
-returns-36 c = rw (c .match .keys36)
-
-returns-37 : tie.Need-returns-37
-unfolding firstIn all
-returns-37 c = rw (c .match .keys37)
-
-returns-38 : tie.Need-returns-38
-unfolding firstIn all
-returns-38 c = rw (c .match .keys38)
-
-returns-39 : tie.Need-returns-39
-unfolding firstIn all
-returns-39 c = rw (c .match .keys39)
-
-returns-40 : tie.Need-returns-40
-unfolding firstIn all
-returns-40 c = rw (c .match .keys40)
-
-returns-41 : tie.Need-returns-41
-unfolding firstIn all
-returns-41 c = rw (c .match .keys41)
-
-returns-42 : tie.Need-returns-42
-unfolding firstIn all
-returns-42 c = rw (c .match .keys42)
-
-returns-43 : tie.Need-returns-43
-unfolding firstIn all
-returns-43 c = rw (c .match .keys43)
-
-returns-44 : tie.Need-returns-44
-unfolding firstIn all
-returns-44 c = rw (c .match .keys44)
-
-returns-45 : tie.Need-returns-45
-unfolding firstIn all
-returns-45 c = rw (c .match .keys45)
-
-returns-46 : tie.Need-returns-46
-unfolding firstIn all
-returns-46 c = rw (c .match .keys46)
-
-returns-47 : tie.Need-returns-47
-unfolding firstIn all
-returns-47 c = rw (c .match .keys47)
-
-returns-48 : tie.Need-returns-48
-unfolding firstIn all
-returns-48 c = rw (c .match .keys48)
-
-returns-49 : tie.Need-returns-49
-unfolding firstIn all
-returns-49 c = rw (c .match .keys49)
-
-returns-50 : tie.Need-returns-50
-unfolding firstIn all
-returns-50 c = rw (c .match .keys50)
-
-returns-51 : tie.Need-returns-51
 unfolding all
-returns-51 c = sym (none opcodeNumber (c .before .args .n) (c .match .rest))
+returns-26 c = c .opcode-from-26 .ensures ∙ sym (past opcodeNumber (take 25 all) (drop 25 all) (c .before .before .args .n) (c .before .match .rest))
 
 pub opcode-of-spec : {M : Type 1} → statement M
 opcode-of-spec =
     tie.close
     (tie.spec
+    opcode-from-26-requires
     returns
     returns-2
     returns-3
@@ -237,29 +143,4 @@ opcode-of-spec =
     returns-23
     returns-24
     returns-25
-    returns-26
-    returns-27
-    returns-28
-    returns-29
-    returns-30
-    returns-31
-    returns-32
-    returns-33
-    returns-34
-    returns-35
-    returns-36
-    returns-37
-    returns-38
-    returns-39
-    returns-40
-    returns-41
-    returns-42
-    returns-43
-    returns-44
-    returns-45
-    returns-46
-    returns-47
-    returns-48
-    returns-49
-    returns-50
-    returns-51)
+    returns-26)

@@ -1,14 +1,14 @@
 use Rattle.opcode.proofs.Variants.{forms, form-place, forms-at}
 use Rattle.opcode.proofs.Arms.{arm}
 use Rattle.opcode.specs.declared.Form.the-variants.{R}
 use Rattle.opcode.specs.declared.Form.{Form}
-use Rattle.opcode.specs.Forms.{immediateOf}
+use Rattle.forms.specs.Forms.{immediateOf}
 use Rattle.encoding.specs.Fields.{field, extended}
 use mathlib.Core.List.{[], _∷_}
 use mathlib.Core.Path.{refl, _∙_}
 use borrow.Author.Needs.{needs}
-use Rattle.opcode.proofs.forms.immediate.Statement.{statement}
-use Rattle.opcode.proofs.forms.immediate.Tie as tie
+use Rattle.forms.proofs.immediate.Statement.{statement}
+use Rattle.forms.proofs.immediate.Tie as tie
 
 extend-17-requires : tie.Need-extend-17-requires
 extend-17-requires c κs = search needs

@@ -1,13 +1,13 @@
 use Rattle.opcode.proofs.Variants.{forms, form-place, forms-at}
 use Rattle.opcode.proofs.Arms.{arm}
 use Rattle.opcode.specs.declared.Form.the-variants.{R}
-use Rattle.opcode.specs.Forms.{usedBits}
+use Rattle.forms.specs.Forms.{usedBits}
 use native.Mathlib.Omega.{arith}
 use mathlib.Core.List.{[], _∷_}
 use mathlib.Core.Path.{refl}
 use borrow.Author.Needs.{needs}
-use Rattle.opcode.proofs.forms.unused.Statement.{statement}
-use Rattle.opcode.proofs.forms.unused.Tie as tie
+use Rattle.forms.proofs.unused.Statement.{statement}
+use Rattle.forms.proofs.unused.Tie as tie
 
 enum-told : tie.Need-enum-told
 enum-told c = search needs

@@ -1,15 +1,15 @@
 use Rattle.opcode.proofs.Variants.{forms, form-place, forms-at}
 use Rattle.opcode.proofs.Arms.{arm}
 use Rattle.opcode.specs.declared.Form.the-variants.{R}
 use Rattle.opcode.specs.declared.Form.{Form}
-use Rattle.opcode.specs.Forms.{immFits}
+use Rattle.forms.specs.Forms.{immFits}
 use Rattle.encoding.specs.Fields.{fitsIn}
 use mathlib.Core.List.{[], _∷_}
 use mathlib.Core.Bool.{true}
 use mathlib.Core.Path.{refl, _∙_}
 use borrow.Author.Needs.{needs}
-use Rattle.opcode.proofs.forms.imm_fits.Statement.{statement}
-use Rattle.opcode.proofs.forms.imm_fits.Tie as tie
+use Rattle.forms.proofs.imm_fits.Statement.{statement}
+use Rattle.forms.proofs.imm_fits.Tie as tie
 
 fits-17-requires : tie.Need-fits-17-requires
 fits-17-requires c κs = search needs

@@ -1,9 +1,37 @@
-// What a word of each form has beside its opcode and registers.
-use super::Form;
+// How an instruction of each opcode lies in its word (document 01, "Words"), and what a word of each form has beside its opcode and
+// registers.
+use opcode::Form;
+use opcode::Opcode;
 ghost use mathlib.Core.Path.{_≡_};
 ghost use Prim.Native.Nat.{_/_, _^_};
 ghost use Rattle.encoding.specs.Fields.{fitsIn};
-ghost use Rattle.opcode.specs.Forms.{usedBits, immediateOf, immFits};
+ghost use Rattle.opcode.specs.Opcodes.{formOf};
+ghost use Rattle.forms.specs.Forms.{usedBits, immediateOf, immFits};
+
+pub fn form_of(op: Opcode) -> Form
+    ensures { λ r. ⌜ r ≡ formOf op ⌝ }
+{
+    match op {
+        Opcode::Addi
+        | Opcode::Andi
+        | Opcode::Ori
+        | Opcode::Xori
+        | Opcode::Lb
+        | Opcode::Lbu
+        | Opcode::Lh
+        | Opcode::Lhu
+        | Opcode::Lw
+        | Opcode::Ld
+        | Opcode::Jalr => Form::I,
+        Opcode::Slli | Opcode::Srli | Opcode::Srai => Form::Shift,
+        Opcode::Sb | Opcode::Sh | Opcode::Sw | Opcode::Sd => Form::S,
+        Opcode::Beq | Opcode::Bne | Opcode::Blt | Opcode::Bge | Opcode::Bltu | Opcode::Bgeu =>
+            Form::B,
+        Opcode::Jal => Form::J,
+        Opcode::Ecall | Opcode::Ebreak => Form::Alone,
+        _ => Form::R,
+    }
+}
 
 // The bits of a word above those that its form uses.
 pub fn unused(f: Form, word: u32) -> u32

@@ -1,12 +1,12 @@
 use Rattle.opcode.proofs.Variants.{place, all-at, places}
 use Rattle.opcode.proofs.Arms.{arm}
 use Rattle.opcode.specs.declared.Form.the-variants.{R, I, Shift, S, B, Alone}
 use Rattle.opcode.specs.declared.Opcode.the-variants as O
 use Rattle.opcode.specs.Opcodes.{formOf, all}
 use mathlib.Core.Path.{refl}
 use borrow.Author.Needs.{needs}
-use Rattle.opcode.proofs.form_of.Statement.{statement}
-use Rattle.opcode.proofs.form_of.Tie as tie
+use Rattle.forms.proofs.form_of.Statement.{statement}
+use Rattle.forms.proofs.form_of.Tie as tie
 
 enum-told : tie.Need-enum-told
 enum-told c = search needs

@@ -1,8 +1,8 @@
 use Rattle.encoding.proofs.Extends.{fits-test}
 use native.Mathlib.Omega.{arith}
 use borrow.Author.Needs.{needs}
-use Rattle.opcode.proofs.forms.fits_21.Statement.{statement}
-use Rattle.opcode.proofs.forms.fits_21.Tie as tie
+use Rattle.forms.proofs.fits_21.Statement.{statement}
+use Rattle.forms.proofs.fits_21.Tie as tie
 
 wrapping-add-u64-requires : tie.Need-wrapping-add-u64-requires
 wrapping-add-u64-requires c κs = search needs
