@@ -13,9 +13,9 @@ use Rattle.effect.specs.Effects.{Seen, effect}
 use Rattle.effect.specs.declared.Effect.{Effect}
 use Rattle.effect.specs.declared.Outcome.{Outcome}
 use Rattle.effect.specs.declared.Outcome.the-variants.{Does, Refuses}
-use Rattle.instruction.specs.Words.{decodeIn}
-use Rattle.instruction.specs.declared.Decoded.{Decoded}
-use Rattle.instruction.specs.declared.Decoded.the-variants as D
+use Rattle.words.specs.Words.{decodeIn}
+use Rattle.words.specs.declared.Decoded.{Decoded}
+use Rattle.words.specs.declared.Decoded.the-variants as D
 use Rattle.instruction.specs.declared.Instruction.{Instruction}
 use Rattle.execute.specs.World.{World, Stepped, refused, does, done}
 use Rattle.execute.specs.Settle.{sources, normaliseEach, settle}

@@ -13,9 +13,9 @@ use Rattle.state.specs.Held.{valueOf}
 use Rattle.state.specs.Registers.{Registers, holds}
 use Rattle.state.specs.Formed.{wellFormed, allWhole}
 use Rattle.state.proofs.Normal.{whole-limbs}
-use Rattle.instruction.specs.Words.{decodeIn}
-use Rattle.instruction.specs.declared.Decoded.{Decoded}
-use Rattle.instruction.specs.declared.Decoded.the-variants as D
+use Rattle.words.specs.Words.{decodeIn}
+use Rattle.words.specs.declared.Decoded.{Decoded}
+use Rattle.words.specs.declared.Decoded.the-variants as D
 use Rattle.execute.specs.World.{World, Stepped}
 use Rattle.execute.specs.Execute.{admits}
 use Rattle.execute.specs.declared.Check.{Check}

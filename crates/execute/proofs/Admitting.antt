@@ -5,7 +5,7 @@ use Rattle.refusal.specs.Stops.{refusalOf}
 use Rattle.state.specs.Registers.{Registers}
 use Rattle.state.specs.Formed.{wellFormed}
 use Rattle.effect.specs.Notes.{Notes}
-use Rattle.instruction.specs.Words.{fitsOf}
+use Rattle.words.specs.Words.{fitsOf}
 use Rattle.instruction.specs.declared.Instruction.{Instruction}
 use Rattle.execute.specs.World.{World, refused}
 use Rattle.execute.specs.Execute.{execute, admits, executeOne}

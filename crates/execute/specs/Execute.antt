@@ -12,7 +12,7 @@ use Rattle.execute.specs.World.{World, world, worldOf, Stepped, stepped,
 use Rattle.execute.specs.Settle.{settle}
 use Rattle.execute.specs.Deferred.{Limbed, limbsIn}
 use Rattle.instruction.specs.declared.Instruction.{Instruction}
-use Rattle.instruction.specs.Words.{fitsOf}
+use Rattle.words.specs.Words.{fitsOf}
 use Rattle.execute.specs.declared.Executed.{Executed}
 use Rattle.execute.specs.declared.Mode.{Mode}
 use Rattle.execute.specs.declared.Mode.the-variants.{Plain, Deferred}

@@ -111,7 +111,7 @@ fn settle_sources(p: Parts, regs: &mut [u64; 16], accumulated: &mut [bool; 16])
     ensures { λ _. ⌜ Becomes (settle Deferred (joinedOf p)) (now (regs .entry)) (now (accumulated .entry)) (now (regs .exit)) (now (accumulated .exit)) ⌝ }
 {
     let op = p.op;
-    match opcode::form_of(op) {
+    match forms::form_of(op) {
         Form::R => deferred::normalise_two(regs, accumulated, p.b, p.c),
         Form::I => registers::normalise(regs, accumulated, p.b),
         Form::Shift => registers::normalise(regs, accumulated, p.b),

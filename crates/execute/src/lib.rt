@@ -76,7 +76,7 @@ pub fn execute(mode: Mode, i: Instruction, s: State, m: &mut [u8]) -> Executed
             state: s,
         };
     }
-    if !instruction::fits(i) {
+    if !words::fits(i) {
         return Executed {
             went: Went::Refused(Refusal::Malformed),
             check: Check::Unneeded,

@@ -7,8 +7,11 @@ use Rattle.bound.proofs as bound
 use Rattle.refusal.proofs as refusal
 use Rattle.memory.proofs as memory
 use Rattle.opcode.proofs as opcode
+use Rattle.forms.proofs as forms
 use Rattle.instruction.proofs as instruction
+use Rattle.words.proofs as words
 use Rattle.state.proofs as state
+use Rattle.normalize.proofs as normalize
 use Rattle.effect.proofs as effect
 use Rattle.execute.proofs as execute
 use Rattle.run.proofs as run
@@ -236,42 +239,44 @@ pub memory·fetch : Determined memory.fetch.ended memory.fetch.Reads.Learnt
 memory·fetch κs a x y = one (λ r. r & x .1)
 
 -- ---- opcode
-pub opcode·forms·unused : Determined opcode.forms.unused.ended opcode.forms.unused.Reads.Learnt
-opcode·forms·unused κs a x y = one (λ r. r & x .1)
-
-pub opcode·forms·immediate : Determined opcode.forms.immediate.ended opcode.forms.immediate.Reads.Learnt
-opcode·forms·immediate κs a x y = one (λ r. r & x .1)
-
-pub opcode·forms·imm-fits : Determined opcode.forms.imm_fits.ended opcode.forms.imm_fits.Reads.Learnt
-opcode·forms·imm-fits κs a x y = one (λ r. r & x .1)
-
 pub opcode·number : Determined opcode.number.ended opcode.number.Reads.Learnt
 opcode·number κs a x y = one (λ r. r & x .1)
 
 pub opcode·opcode-of : Determined opcode.opcode_of.ended opcode.opcode_of.Reads.Learnt
 opcode·opcode-of κs a x y = one (λ r. r & x .1)
 
-pub opcode·form-of : Determined opcode.form_of.ended opcode.form_of.Reads.Learnt
-opcode·form-of κs a x y = one (λ r. r & x .1)
+-- ---- forms
+pub forms·unused : Determined forms.unused.ended forms.unused.Reads.Learnt
+forms·unused κs a x y = one (λ r. r & x .1)
+
+pub forms·immediate : Determined forms.immediate.ended forms.immediate.Reads.Learnt
+forms·immediate κs a x y = one (λ r. r & x .1)
+
+pub forms·imm-fits : Determined forms.imm_fits.ended forms.imm_fits.Reads.Learnt
+forms·imm-fits κs a x y = one (λ r. r & x .1)
+
+pub forms·form-of : Determined forms.form_of.ended forms.form_of.Reads.Learnt
+forms·form-of κs a x y = one (λ r. r & x .1)
 
 -- ---- instruction
-pub instruction·decoder·take : Determined instruction.decoder.take.ended instruction.decoder.take.Reads.Learnt
-instruction·decoder·take κs a x y = one (λ r. r & x .1)
-
-pub instruction·decoder·decode : Determined instruction.decoder.decode.ended instruction.decoder.decode.Reads.Learnt
-instruction·decoder·decode κs a x y = one (λ r. r & x .1)
-
-pub instruction·encoder·fits : Determined instruction.encoder.fits.ended instruction.encoder.fits.Reads.Learnt
-instruction·encoder·fits κs a x y = one (λ r. r & x .1)
-
-pub instruction·encoder·encode : Determined instruction.encoder.encode.ended instruction.encoder.encode.Reads.Learnt
-instruction·encoder·encode κs a x y = one (λ r. r & x .1)
-
 pub instruction·operands·joined : Determined instruction.operands.joined.ended instruction.operands.joined.Reads.Learnt
 instruction·operands·joined κs a x y = one (λ r. r & x .1)
 
 pub instruction·operands·parts-of : Determined instruction.operands.parts_of.ended instruction.operands.parts_of.Reads.Learnt
 instruction·operands·parts-of κs a x y = one (λ r. r & x .1)
+
+-- ---- words
+pub words·decoder·take : Determined words.decoder.take.ended words.decoder.take.Reads.Learnt
+words·decoder·take κs a x y = one (λ r. r & x .1)
+
+pub words·decoder·decode : Determined words.decoder.decode.ended words.decoder.decode.Reads.Learnt
+words·decoder·decode κs a x y = one (λ r. r & x .1)
+
+pub words·encoder·fits : Determined words.encoder.fits.ended words.encoder.fits.Reads.Learnt
+words·encoder·fits κs a x y = one (λ r. r & x .1)
+
+pub words·encoder·encode : Determined words.encoder.encode.ended words.encoder.encode.Reads.Learnt
+words·encoder·encode κs a x y = one (λ r. r & x .1)
 
 -- ---- state
 pub state·formed·well-formed : Determined state.formed.well_formed.ended state.formed.well_formed.Reads.Learnt
@@ -282,24 +287,6 @@ state·formed·all-whole κs a x y = one (λ r. r & x .1)
 
 pub state·fresh : Determined state.fresh.ended state.fresh.Reads.Learnt
 state·fresh κs a x y = one (λ r. r & x .1)
-
-pub state·normalize·has-carries : Determined state.normalize.has_carries.ended state.normalize.has_carries.Reads.Learnt
-state·normalize·has-carries κs a x y = one (λ r. r & x .1)
-
-pub state·normalize·total-carry : Determined state.normalize.total_carry.ended state.normalize.total_carry.Reads.Learnt
-state·normalize·total-carry κs a x y = one (λ r. r & x .1)
-
-pub state·normalize·would-overflow : Determined state.normalize.would_overflow.ended state.normalize.would_overflow.Reads.Learnt
-state·normalize·would-overflow κs a x y = one (λ r. r & x .1)
-
-pub state·normalize·normalize-register : Determined state.normalize.normalize_register.ended state.normalize.normalize_register.Reads.Learnt
-state·normalize·normalize-register κs a x y = one (λ r. r & x .1)
-
-pub state·normalize·normalize-and-write : Determined state.normalize.normalize_and_write.ended state.normalize.normalize_and_write.Reads.Learnt
-state·normalize·normalize-and-write κs a x y = one (λ r. r & x .1)
-
-pub state·normalize·normalize-if-near-overflow : Determined state.normalize.normalize_if_near_overflow.ended state.normalize.normalize_if_near_overflow.Reads.Learnt
-state·normalize·normalize-if-near-overflow κs a x y = one (λ r. r & x .1)
 
 pub state·registers·value-at : Determined state.registers.value_at.ended state.registers.value_at.Reads.Learnt
 state·registers·value-at κs a x y = one (λ r. r & x .1)
@@ -324,6 +311,25 @@ state·registers·normalise κs a x y = λ p q. one (λ (R : Registers). tt & R 
 
 pub state·registers·normalise-all : Determined state.registers.normalise_all.ended state.registers.normalise_all.Reads.Learnt
 state·registers·normalise-all κs a x y = λ p q. one (λ (R : Registers). tt & R .values & R .accumulated & x .1 .1 .1) (p []) (q [])
+
+-- ---- normalize
+pub normalize·has-carries : Determined normalize.has_carries.ended normalize.has_carries.Reads.Learnt
+normalize·has-carries κs a x y = one (λ r. r & x .1)
+
+pub normalize·total-carry : Determined normalize.total_carry.ended normalize.total_carry.Reads.Learnt
+normalize·total-carry κs a x y = one (λ r. r & x .1)
+
+pub normalize·would-overflow : Determined normalize.would_overflow.ended normalize.would_overflow.Reads.Learnt
+normalize·would-overflow κs a x y = one (λ r. r & x .1)
+
+pub normalize·normalize-register : Determined normalize.normalize_register.ended normalize.normalize_register.Reads.Learnt
+normalize·normalize-register κs a x y = one (λ r. r & x .1)
+
+pub normalize·normalize-and-write : Determined normalize.normalize_and_write.ended normalize.normalize_and_write.Reads.Learnt
+normalize·normalize-and-write κs a x y = one (λ r. r & x .1)
+
+pub normalize·normalize-if-near-overflow : Determined normalize.normalize_if_near_overflow.ended normalize.normalize_if_near_overflow.Reads.Learnt
+normalize·normalize-if-near-overflow κs a x y = one (λ r. r & x .1)
 
 -- ---- effect
 pub effect·effect-of : Determined effect.effect_of.ended effect.effect_of.Reads.Learnt

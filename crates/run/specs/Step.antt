@@ -8,9 +8,9 @@ use Rattle.memory.specs.declared.Fetched.{Fetched}
 use Rattle.memory.specs.declared.Fetched.the-variants as F
 use Rattle.opcode.specs.Opcodes.{opcodeNumber}
 use Rattle.opcode.specs.declared.Opcode.{Opcode}
-use Rattle.instruction.specs.Words.{decodeIn}
-use Rattle.instruction.specs.declared.Decoded.{Decoded}
-use Rattle.instruction.specs.declared.Decoded.the-variants as D
+use Rattle.words.specs.Words.{decodeIn}
+use Rattle.words.specs.declared.Decoded.{Decoded}
+use Rattle.words.specs.declared.Decoded.the-variants as D
 use Rattle.effect.specs.Notes.{Notes, documentNotes}
 use Rattle.execute.specs.World.{World, world, worldOf, Stepped, refused}
 use Rattle.execute.specs.Execute.{execute, admits}

@@ -4,11 +4,11 @@ use execute::Check;
 use execute::Mode;
 use execute::Went;
 use execute::lent;
-use instruction::Taken;
 use memory::Fetched;
 use refusal::Refusal;
 use refusal::Stop;
 use state::State;
+use words::Taken;
 ghost use mathlib.Core.Path.{_≡_};
 ghost use mathlib.Core.Bool.{_&&_};
 ghost use Prim.Native.Nat.{_≤_};
@@ -20,7 +20,7 @@ ghost use Rattle.execute.specs.declared.Mode.the-variants.{Plain, Deferred};
 ghost use Rattle.execute.specs.declared.Went.the-variants as W;
 ghost use Rattle.execute.specs.declared.Check.the-variants.{Unneeded};
 ghost use Rattle.state.specs.Formed.{registersOf};
-ghost use Rattle.instruction.specs.Words.{decodedOf};
+ghost use Rattle.words.specs.Words.{decodedOf};
 ghost use Rattle.run.specs.Pending.{lists};
 ghost use Rattle.run.specs.Step.{documentRules, obey, stepIn, step, stepped};
 ghost use Rattle.run.specs.Run.{goesOn, stopOf, counted, loop, run, ran};
@@ -88,7 +88,7 @@ fn step_in(
         Fetched::Word(word) => obey(
             mode,
             full,
-            instruction::take(word),
+            words::take(word),
             pc,
             halted,
             regs,

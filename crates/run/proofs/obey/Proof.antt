@@ -1,4 +1,4 @@
-use Rattle.instruction.specs.Words.{decodedOf}
+use Rattle.words.specs.Words.{decodedOf}
 use Rattle.run.specs.Step.{obey}
 use borrow.Author.Needs.{needs}
 use Rattle.run.proofs.obey.Statement.{statement}
