@@ -1,1 +1,2 @@
+pub mod Kindred
 pub mod Wholes
