@@ -1,3 +1,4 @@
 pub mod Operations
 pub mod Notes
 pub mod Effects
+pub mod Operands

@@ -1,9 +1,10 @@
-// The effect of each kind of instruction, from numbers alone.
+// The effect of each kind of instruction, from what it reads.
 use crate::Effect;
 use crate::Goes;
 use crate::Outcome;
 use crate::Stores;
 use crate::load;
+use crate::operands::Operands;
 use instruction::LoadKind;
 use memory::Loaded;
 use memory::Size;
@@ -11,23 +12,18 @@ use memory::Stored;
 use refusal::Refusal;
 ghost use mathlib.Core.Path.{_≡_};
 ghost use mathlib.Core.Bool.{cond};
-ghost use Prim.Native.Nat.{_%_};
+ghost use Prim.Native.Nat.{_%_, _*_, _/_};
 ghost use lib.Dec.{eqb};
+ghost use lib.ListN.{length};
 ghost use Rattle.refusal.specs.Stops.{refusalOf};
 ghost use Rattle.value.specs.Forty.{add40, sub40, mul40, and40, or40, xor40, shl40, shr40, sra40};
 ghost use Rattle.value.specs.Product.{mulhOf};
-ghost use Rattle.memory.specs.Memory.{sizeOf, storeOf};
+ghost use Rattle.memory.specs.Memory.{sizeOf, loadOf, storeOf};
 ghost use Rattle.bound.specs.Bits.{bitsOf, afterAdd, afterSub, afterMul, afterDiv, afterAnd, afterShl, afterSrl, afterSra, afterCmp, afterMove, afterLoad};
 ghost use Rattle.effect.specs.Operations.{plus64, bit, loaded, loadSize};
 ghost use Rattle.effect.specs.Effects.{writing, writes, writesChecked, goesTo, storesAt, onLoaded, onStorable};
 ghost use Rattle.effect.specs.declared.Goes.the-variants.{On};
 ghost use Rattle.effect.specs.declared.Outcome.the-variants.{Refuses};
-
-// A register's value and bound, or an immediate's.
-pub(crate) struct Operand {
-    pub value: u64,
-    pub bound: u8,
-}
 
 fn following(pc: u64) -> u64
     ensures { λ r. ⌜ r ≡ plus64 pc 4 ⌝ }
@@ -49,17 +45,23 @@ fn writing(checked: bool, rd: u8, value: u64, bound: u8, next: u64) -> Outcome
     })
 }
 
-fn writes(pc: u64, rd: u8, value: u64, bound: u8) -> Outcome
-    ensures { λ r. ⌜ r ≡ writes rd value bound (plus64 pc 4) ⌝ }
+fn writes(o: Operands, value: u64, bound: u8) -> Outcome
+    ensures { λ r. ⌜ r ≡ writes (o .rd) value bound (plus64 (o .pc) 4) ⌝ }
 {
-    writing(false, rd, value, bound, following(pc))
+    writing(false, o.rd, value, bound, following(o.pc))
 }
 
 // Where the bound is above 40 bits, a check is needed.
-fn writes_checked(pc: u64, rd: u8, value: u64, bound: u8) -> Outcome
-    ensures { λ r. ⌜ r ≡ writesChecked rd value bound (plus64 pc 4) ⌝ }
+fn writes_checked(o: Operands, value: u64, bound: u8) -> Outcome
+    ensures { λ r. ⌜ r ≡ writesChecked (o .rd) value bound (plus64 (o .pc) 4) ⌝ }
 {
-    writing(bound::needs_check(bound), rd, value, bound, following(pc))
+    writing(
+        bound::needs_check(bound),
+        o.rd,
+        value,
+        bound,
+        following(o.pc),
+    )
 }
 
 pub(crate) fn goes_to(next: u64, goes: Goes) -> Outcome
@@ -95,125 +97,86 @@ fn stores_at(size: Size, address: u64, value: u64, next: u64) -> Outcome
     })
 }
 
-pub(crate) fn add(pc: u64, rd: u8, s: Operand, t: Operand) -> Outcome
-    ensures { λ r. ⌜ r ≡ writesChecked rd (add40 (s .value) (t .value)) (afterAdd (s .bound) (t .bound)) (plus64 pc 4) ⌝ }
+pub(crate) fn add(o: Operands) -> Outcome
+    ensures { λ r. ⌜ r ≡ writesChecked (o .rd) (add40 (o .b) (o .c)) (afterAdd (o .y) (o .z)) (plus64 (o .pc) 4) ⌝ }
 {
-    writes_checked(
-        pc,
-        rd,
-        value::forty::add(s.value, t.value),
-        bound::after_add(s.bound, t.bound),
-    )
+    writes_checked(o, value::forty::add(o.b, o.c), bound::after_add(o.y, o.z))
 }
 
 // Addi needs no check.
-pub(crate) fn add_unchecked(pc: u64, rd: u8, s: Operand, t: Operand) -> Outcome
-    ensures { λ r. ⌜ r ≡ writes rd (add40 (s .value) (t .value)) (afterAdd (s .bound) (t .bound)) (plus64 pc 4) ⌝ }
+pub(crate) fn add_unchecked(o: Operands, t: u64, bound: u8) -> Outcome
+    ensures { λ r. ⌜ r ≡ writes (o .rd) (add40 (o .b) t) (afterAdd (o .y) bound) (plus64 (o .pc) 4) ⌝ }
+{
+    writes(o, value::forty::add(o.b, t), bound::after_add(o.y, bound))
+}
+
+pub(crate) fn sub(o: Operands) -> Outcome
+    ensures { λ r. ⌜ r ≡ writes (o .rd) (sub40 (o .b) (o .c)) (afterSub (o .y) (o .z)) (plus64 (o .pc) 4) ⌝ }
+{
+    writes(o, value::forty::sub(o.b, o.c), bound::after_sub(o.y, o.z))
+}
+
+pub(crate) fn mul(o: Operands) -> Outcome
+    ensures { λ r. ⌜ r ≡ writesChecked (o .rd) (mul40 (o .b) (o .c)) (afterMul (o .y) (o .z)) (plus64 (o .pc) 4) ⌝ }
+{
+    writes_checked(o, value::forty::mul(o.b, o.c), bound::after_mul(o.y, o.z))
+}
+
+pub(crate) fn mulh(o: Operands) -> Outcome
+    ensures { λ r. ⌜ r ≡ writes (o .rd) (mulhOf (o .b) (o .c)) (afterMul (o .y) (o .z)) (plus64 (o .pc) 4) ⌝ }
 {
     writes(
-        pc,
-        rd,
-        value::forty::add(s.value, t.value),
-        bound::after_add(s.bound, t.bound),
+        o,
+        value::product::mulh(o.b, o.c),
+        bound::after_mul(o.y, o.z),
     )
 }
 
-pub(crate) fn sub(pc: u64, rd: u8, s: Operand, t: Operand) -> Outcome
-    ensures { λ r. ⌜ r ≡ writes rd (sub40 (s .value) (t .value)) (afterSub (s .bound) (t .bound)) (plus64 pc 4) ⌝ }
+pub(crate) fn and(o: Operands, t: u64, bound: u8) -> Outcome
+    ensures { λ r. ⌜ r ≡ writes (o .rd) (and40 (o .b) t) (afterAnd (o .y) bound) (plus64 (o .pc) 4) ⌝ }
+{
+    writes(o, value::forty::and(o.b, t), bound::after_and(o.y, bound))
+}
+
+pub(crate) fn or(o: Operands, t: u64, bound: u8) -> Outcome
+    ensures { λ r. ⌜ r ≡ writes (o .rd) (or40 (o .b) t) (afterSub (o .y) bound) (plus64 (o .pc) 4) ⌝ }
+{
+    writes(o, value::forty::or(o.b, t), bound::after_sub(o.y, bound))
+}
+
+pub(crate) fn xor(o: Operands, t: u64, bound: u8) -> Outcome
+    ensures { λ r. ⌜ r ≡ writes (o .rd) (xor40 (o .b) t) (afterSub (o .y) bound) (plus64 (o .pc) 4) ⌝ }
+{
+    writes(o, value::forty::xor(o.b, t), bound::after_sub(o.y, bound))
+}
+
+pub(crate) fn sll(o: Operands, t: u64) -> Outcome
+    ensures { λ r. ⌜ r ≡ writes (o .rd) (shl40 (o .b) (t % 64)) (afterShl (o .y) (t % 64)) (plus64 (o .pc) 4) ⌝ }
 {
     writes(
-        pc,
-        rd,
-        value::forty::sub(s.value, t.value),
-        bound::after_sub(s.bound, t.bound),
+        o,
+        value::forty::shl(o.b, t % 64),
+        bound::after_shl(o.y, t % 64),
     )
 }
 
-pub(crate) fn mul(pc: u64, rd: u8, s: Operand, t: Operand) -> Outcome
-    ensures { λ r. ⌜ r ≡ writesChecked rd (mul40 (s .value) (t .value)) (afterMul (s .bound) (t .bound)) (plus64 pc 4) ⌝ }
+pub(crate) fn srl(o: Operands, t: u64) -> Outcome
+    ensures { λ r. ⌜ r ≡ writes (o .rd) (shr40 (o .b) (t % 64)) (afterSrl (o .y) (t % 64)) (plus64 (o .pc) 4) ⌝ }
 {
-    writes_checked(
-        pc,
-        rd,
-        value::forty::mul(s.value, t.value),
-        bound::after_mul(s.bound, t.bound),
+    writes(
+        o,
+        value::forty::shr(o.b, t % 64),
+        bound::after_srl(o.y, t % 64),
     )
 }
 
-pub(crate) fn mulh(pc: u64, rd: u8, s: Operand, t: Operand) -> Outcome
-    ensures { λ r. ⌜ r ≡ writes rd (mulhOf (s .value) (t .value)) (afterMul (s .bound) (t .bound)) (plus64 pc 4) ⌝ }
+pub(crate) fn sra(o: Operands, t: u64) -> Outcome
+    ensures { λ r. ⌜ r ≡ writes (o .rd) (sra40 (o .b) (t % 64)) (afterSra (o .y) (t % 64)) (plus64 (o .pc) 4) ⌝ }
 {
     writes(
-        pc,
-        rd,
-        value::product::mulh(s.value, t.value),
-        bound::after_mul(s.bound, t.bound),
-    )
-}
-
-pub(crate) fn and(pc: u64, rd: u8, s: Operand, t: Operand) -> Outcome
-    ensures { λ r. ⌜ r ≡ writes rd (and40 (s .value) (t .value)) (afterAnd (s .bound) (t .bound)) (plus64 pc 4) ⌝ }
-{
-    writes(
-        pc,
-        rd,
-        value::forty::and(s.value, t.value),
-        bound::after_and(s.bound, t.bound),
-    )
-}
-
-pub(crate) fn or(pc: u64, rd: u8, s: Operand, t: Operand) -> Outcome
-    ensures { λ r. ⌜ r ≡ writes rd (or40 (s .value) (t .value)) (afterSub (s .bound) (t .bound)) (plus64 pc 4) ⌝ }
-{
-    writes(
-        pc,
-        rd,
-        value::forty::or(s.value, t.value),
-        bound::after_sub(s.bound, t.bound),
-    )
-}
-
-pub(crate) fn xor(pc: u64, rd: u8, s: Operand, t: Operand) -> Outcome
-    ensures { λ r. ⌜ r ≡ writes rd (xor40 (s .value) (t .value)) (afterSub (s .bound) (t .bound)) (plus64 pc 4) ⌝ }
-{
-    writes(
-        pc,
-        rd,
-        value::forty::xor(s.value, t.value),
-        bound::after_sub(s.bound, t.bound),
-    )
-}
-
-pub(crate) fn sll(pc: u64, rd: u8, s: Operand, t: Operand) -> Outcome
-    ensures { λ r. ⌜ r ≡ writes rd (shl40 (s .value) (t .value % 64)) (afterShl (s .bound) (t .value % 64)) (plus64 pc 4) ⌝ }
-{
-    writes(
-        pc,
-        rd,
-        value::forty::shl(s.value, t.value % 64),
-        bound::after_shl(s.bound, t.value % 64),
-    )
-}
-
-pub(crate) fn srl(pc: u64, rd: u8, s: Operand, t: Operand) -> Outcome
-    ensures { λ r. ⌜ r ≡ writes rd (shr40 (s .value) (t .value % 64)) (afterSrl (s .bound) (t .value % 64)) (plus64 pc 4) ⌝ }
-{
-    writes(
-        pc,
-        rd,
-        value::forty::shr(s.value, t.value % 64),
-        bound::after_srl(s.bound, t.value % 64),
-    )
-}
-
-pub(crate) fn sra(pc: u64, rd: u8, s: Operand, t: Operand) -> Outcome
-    ensures { λ r. ⌜ r ≡ writes rd (sra40 (s .value) (t .value % 64)) (afterSra (s .bound) (t .value % 64)) (plus64 pc 4) ⌝ }
-{
-    writes(
-        pc,
-        rd,
-        value::forty::sra(s.value, t.value % 64),
-        bound::after_sra(s.bound, t.value % 64),
+        o,
+        value::forty::sra(o.b, t % 64),
+        bound::after_sra(o.y, t % 64),
     )
 }
 
@@ -223,62 +186,81 @@ fn one_if(t: bool) -> u64
     if t { 1 } else { 0 }
 }
 
-pub(crate) fn sets(pc: u64, rd: u8, t: bool) -> Outcome
-    ensures { λ r. ⌜ r ≡ writes rd (bit t) afterCmp (plus64 pc 4) ⌝ }
+pub(crate) fn sets(o: Operands, t: bool) -> Outcome
+    ensures { λ r. ⌜ r ≡ writes (o .rd) (bit t) afterCmp (plus64 (o .pc) 4) ⌝ }
 {
-    writes(pc, rd, one_if(t), bound::after_cmp())
+    writes(o, one_if(t), bound::after_cmp())
 }
 
 // The quotient or remainder is given; that of a divisor 0 is not looked at.
-pub(crate) fn divides(pc: u64, rd: u8, divisor: u64, value: u64, bound: u8) -> Outcome
-    ensures { λ r. ⌜ r ≡ cond (eqb divisor 0) (Refuses (refusalOf 1 pc)) (writes rd value (afterDiv bound) (plus64 pc 4)) ⌝ }
+pub(crate) fn divides(o: Operands, value: u64) -> Outcome
+    ensures { λ r. ⌜ r ≡ cond (eqb (o .c) 0) (Refuses (refusalOf 1 (o .pc))) (writes (o .rd) value (afterDiv (o .y)) (plus64 (o .pc) 4)) ⌝ }
 {
-    if divisor == 0 {
-        return Outcome::Refuses(Refusal::DivisorZero { pc });
+    if o.c == 0 {
+        return Outcome::Refuses(Refusal::DivisorZero { pc: o.pc });
     }
-    writes(pc, rd, value, bound::after_div(bound))
+    writes(o, value, bound::after_div(o.y))
 }
 
-// z is the destination's bound.
-pub(crate) fn moves(pc: u64, rd: u8, happens: bool, s: Operand, z: u8) -> Outcome
-    ensures { λ r. ⌜ r ≡ cond happens (writes rd (s .value) (afterMove (s .bound) z) (plus64 pc 4)) (goesTo (plus64 pc 4) On) ⌝ }
+pub(crate) fn moves(o: Operands, happens: bool) -> Outcome
+    ensures { λ r. ⌜ r ≡ cond happens (writes (o .rd) (o .b) (afterMove (o .y) (o .x)) (plus64 (o .pc) 4)) (goesTo (plus64 (o .pc) 4) On) ⌝ }
 {
     if happens {
-        return writes(pc, rd, s.value, bound::after_move(s.bound, z));
+        return writes(o, o.b, bound::after_move(o.y, o.x));
     }
-    goes_to(following(pc), Goes::On)
+    goes_to(following(o.pc), Goes::On)
 }
 
-pub(crate) fn loads(op: LoadKind, pc: u64, rd: u8, l: Loaded) -> Outcome
-    ensures { λ r. ⌜ r ≡ onLoaded (λ v. writes rd (loaded op v) (afterLoad (sizeOf (loadSize op))) (plus64 pc 4)) l ⌝ }
+fn loads_value(op: LoadKind, o: Operands, l: Loaded) -> Outcome
+    ensures { λ r. ⌜ r ≡ onLoaded (λ v. writes (o .rd) (loaded op v) (afterLoad (sizeOf (loadSize op))) (plus64 (o .pc) 4)) l ⌝ }
 {
     match l {
-        Loaded::Value(v) => writes(pc, rd, load::loaded(op, v), load::load_bits(op)),
+        Loaded::Value(v) => writes(o, load::loaded(op, v), load::load_bits(op)),
         Loaded::Refused(r) => Outcome::Refuses(r),
     }
 }
 
-pub(crate) fn stores(size: Size, pc: u64, address: u64, value: u64, len: usize) -> Outcome
-    ensures { λ r. ⌜ r ≡ onStorable (storesAt size address value (plus64 pc 4)) (storeOf size len address) ⌝ }
+pub(crate) fn loads(op: LoadKind, o: Operands, m: &[u8]) -> Outcome
+    ensures { λ r. ⌜ r ≡ onLoaded (λ v. writes (o .rd) (loaded op v) (afterLoad (sizeOf (loadSize op))) (plus64 (o .pc) 4)) (loadOf (loadSize op) (now (m .entry)) (plus64 (o .b) (o .imm))) ⌝ }
 {
-    match memory::storable(len, address, size) {
-        Stored::Done => stores_at(size, address, value, following(pc)),
+    let l = memory::load(m, value::address::plus(o.b, o.imm), load::load_size(op));
+    loads_value(op, o, l)
+}
+
+pub(crate) fn stores(size: Size, o: Operands, m: &[u8]) -> Outcome
+    ensures { λ r. ⌜ r ≡ onStorable (storesAt size (plus64 (o .a) (o .imm)) (o .b) (plus64 (o .pc) 4)) (storeOf size (length (now (m .entry))) (plus64 (o .a) (o .imm))) ⌝ }
+{
+    let address = value::address::plus(o.a, o.imm);
+    match memory::storable(m.len(), address, size) {
+        Stored::Done => stores_at(size, address, o.b, following(o.pc)),
         Stored::Refused(r) => Outcome::Refuses(r),
     }
 }
 
-pub(crate) fn branches(pc: u64, imm: u64, taken: bool) -> Outcome
-    ensures { λ r. ⌜ r ≡ goesTo (plus64 pc (cond taken imm 4)) On ⌝ }
+pub(crate) fn branches(o: Operands, taken: bool) -> Outcome
+    ensures { λ r. ⌜ r ≡ goesTo (plus64 (o .pc) (cond taken (o .imm) 4)) On ⌝ }
 {
     if taken {
-        return goes_to(value::address::plus(pc, imm), Goes::On);
+        return goes_to(value::address::plus(o.pc, o.imm), Goes::On);
     }
-    goes_to(following(pc), Goes::On)
+    goes_to(following(o.pc), Goes::On)
 }
 
-pub(crate) fn link(pc: u64, rd: u8, to: u64) -> Outcome
-    ensures { λ r. ⌜ r ≡ writes rd (plus64 pc 4) (bitsOf (plus64 pc 4)) to ⌝ }
+fn link(o: Operands, to: u64) -> Outcome
+    ensures { λ r. ⌜ r ≡ writes (o .rd) (plus64 (o .pc) 4) (bitsOf (plus64 (o .pc) 4)) to ⌝ }
 {
-    let back = following(pc);
-    writing(false, rd, back, bound::from_constant(back), to)
+    let back = following(o.pc);
+    writing(false, o.rd, back, bound::from_constant(back), to)
+}
+
+pub(crate) fn jal(o: Operands) -> Outcome
+    ensures { λ r. ⌜ r ≡ writes (o .rd) (plus64 (o .pc) 4) (bitsOf (plus64 (o .pc) 4)) (plus64 (o .pc) (o .imm)) ⌝ }
+{
+    link(o, value::address::plus(o.pc, o.imm))
+}
+
+pub(crate) fn jalr(o: Operands) -> Outcome
+    ensures { λ r. ⌜ r ≡ writes (o .rd) (plus64 (o .pc) 4) (bitsOf (plus64 (o .pc) 4)) (plus64 (o .b) (o .imm) / 2 * 2) ⌝ }
+{
+    link(o, value::address::plus(o.b, o.imm) / 2 * 2)
 }

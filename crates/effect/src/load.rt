@@ -6,7 +6,7 @@ ghost use Rattle.memory.specs.Memory.{sizeOf};
 ghost use Rattle.bound.specs.Bits.{afterLoad};
 ghost use Rattle.effect.specs.Operations.{loadSize, loaded};
 
-fn load_size(op: LoadKind) -> Size
+pub(crate) fn load_size(op: LoadKind) -> Size
     ensures { λ r. ⌜ r ≡ loadSize op ⌝ }
 {
     match op {

@@ -1,13 +1,12 @@
 use Rattle.instruction.proofs.Wholes.{joined-parts}
-use borrow.Author.Needs.{needs}
 use Rattle.effect.proofs.effect_of.Statement.{statement}
 use Rattle.effect.proofs.effect_of.Tie as tie
 
 parts-of-requires : tie.Need-parts-of-requires
-parts-of-requires c κs = search needs
+parts-of-requires c κs = tt
 
 effect-of-parts-requires : tie.Need-effect-of-parts-requires
-effect-of-parts-requires c κs = search needs
+effect-of-parts-requires c κs = tt
 
 returns : tie.Need-returns
 returns c = rw (c .effect-of-parts .ensures, c .before .parts-of .ensures, joined-parts (c .before .before .before .args .i))

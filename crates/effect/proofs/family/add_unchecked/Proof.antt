@@ -1,15 +1,14 @@
-use borrow.Author.Needs.{needs}
 use Rattle.effect.proofs.family.add_unchecked.Statement.{statement}
 use Rattle.effect.proofs.family.add_unchecked.Tie as tie
 
 add-requires : tie.Need-add-requires
-add-requires c κs = search needs
+add-requires c κs = tt
 
 after-add-requires : tie.Need-after-add-requires
-after-add-requires c κs = search needs
+after-add-requires c κs = tt
 
 writes-requires : tie.Need-writes-requires
-writes-requires c κs = search needs
+writes-requires c κs = tt
 
 returns : tie.Need-returns
 returns c = rw (c .writes .ensures, c .before .after-add .ensures, c .before .before .add .ensures)

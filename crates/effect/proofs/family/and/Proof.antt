@@ -1,15 +1,14 @@
-use borrow.Author.Needs.{needs}
 use Rattle.effect.proofs.family.and.Statement.{statement}
 use Rattle.effect.proofs.family.and.Tie as tie
 
 and-requires : tie.Need-and-requires
-and-requires c κs = search needs
+and-requires c κs = tt
 
 after-and-requires : tie.Need-after-and-requires
-after-and-requires c κs = search needs
+after-and-requires c κs = tt
 
 writes-requires : tie.Need-writes-requires
-writes-requires c κs = search needs
+writes-requires c κs = tt
 
 returns : tie.Need-returns
 returns c = rw (c .writes .ensures, c .before .after-and .ensures, c .before .before .and .ensures)

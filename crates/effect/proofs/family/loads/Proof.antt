@@ -1,30 +1,22 @@
-use Rattle.effect.specs.Effects.{onLoaded}
-use borrow.Author.Needs.{needs}
 use Rattle.effect.proofs.family.loads.Statement.{statement}
 use Rattle.effect.proofs.family.loads.Tie as tie
 
-enum-known-l : tie.Need-enum-known-l
-enum-known-l c = search needs
+plus-requires : tie.Need-plus-requires
+plus-requires c κs = tt
 
-loaded-requires : tie.Need-loaded-requires
-loaded-requires c κs = search needs
+load-size-requires : tie.Need-load-size-requires
+load-size-requires c κs = tt
 
-load-bits-requires : tie.Need-load-bits-requires
-load-bits-requires c κs = search needs
+load-requires : tie.Need-load-requires
+load-requires c κs = tt
 
-writes-requires : tie.Need-writes-requires
-writes-requires c κs = search needs
-
-enum-known-l-2 : tie.Need-enum-known-l-2
-enum-known-l-2 c = search needs
+loads-value-requires : tie.Need-loads-value-requires
+loads-value-requires c κs = tt
 
 returns : tie.Need-returns
-unfolding onLoaded
-returns c = rw (c .before .before .before .before .l .given .1) (rw (c .writes .ensures, c .before .load-bits .ensures, c .before .before .loaded .ensures))
-
-returns-2 : tie.Need-returns-2
-unfolding onLoaded
-returns-2 c = rw (c .before .l2 .given .1)
+returns c = rw (c .loads-value .ensures, c .before .load .ensures, c .before .before .load-size .ensures, c .before .before .before .plus .ensures)
 
 pub loads-spec : {M : Type 1} → statement M
-loads-spec = tie.close (tie.spec enum-known-l loaded-requires load-bits-requires writes-requires enum-known-l-2 returns returns-2)
+loads-spec =
+    tie.close
+    (tie.spec plus-requires load-size-requires load-requires loads-value-requires returns)

@@ -1,15 +1,14 @@
-use borrow.Author.Needs.{needs}
 use Rattle.effect.proofs.family.mul.Statement.{statement}
 use Rattle.effect.proofs.family.mul.Tie as tie
 
 mul-requires : tie.Need-mul-requires
-mul-requires c κs = search needs
+mul-requires c κs = tt
 
 after-mul-requires : tie.Need-after-mul-requires
-after-mul-requires c κs = search needs
+after-mul-requires c κs = tt
 
 writes-checked-requires : tie.Need-writes-checked-requires
-writes-checked-requires c κs = search needs
+writes-checked-requires c κs = tt
 
 returns : tie.Need-returns
 returns c = rw (c .writes-checked .ensures, c .before .after-mul .ensures, c .before .before .mul .ensures)

@@ -1,15 +1,14 @@
-use borrow.Author.Needs.{needs}
 use Rattle.effect.proofs.family.mulh.Statement.{statement}
 use Rattle.effect.proofs.family.mulh.Tie as tie
 
 mulh-requires : tie.Need-mulh-requires
-mulh-requires c κs = search needs
+mulh-requires c κs = tt
 
 after-mul-requires : tie.Need-after-mul-requires
-after-mul-requires c κs = search needs
+after-mul-requires c κs = tt
 
 writes-requires : tie.Need-writes-requires
-writes-requires c κs = search needs
+writes-requires c κs = tt
 
 returns : tie.Need-returns
 returns c = rw (c .writes .ensures, c .before .after-mul .ensures, c .before .before .mulh .ensures)

@@ -1,15 +1,14 @@
-use borrow.Author.Needs.{needs}
 use Rattle.effect.proofs.family.or.Statement.{statement}
 use Rattle.effect.proofs.family.or.Tie as tie
 
 or-requires : tie.Need-or-requires
-or-requires c κs = search needs
+or-requires c κs = tt
 
 after-sub-requires : tie.Need-after-sub-requires
-after-sub-requires c κs = search needs
+after-sub-requires c κs = tt
 
 writes-requires : tie.Need-writes-requires
-writes-requires c κs = search needs
+writes-requires c κs = tt
 
 returns : tie.Need-returns
 returns c = rw (c .writes .ensures, c .before .after-sub .ensures, c .before .before .or .ensures)

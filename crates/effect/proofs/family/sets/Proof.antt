@@ -1,15 +1,14 @@
-use borrow.Author.Needs.{needs}
 use Rattle.effect.proofs.family.sets.Statement.{statement}
 use Rattle.effect.proofs.family.sets.Tie as tie
 
 one-if-requires : tie.Need-one-if-requires
-one-if-requires c κs = search needs
+one-if-requires c κs = tt
 
 after-cmp-requires : tie.Need-after-cmp-requires
-after-cmp-requires c κs = search needs
+after-cmp-requires c κs = tt
 
 writes-requires : tie.Need-writes-requires
-writes-requires c κs = search needs
+writes-requires c κs = tt
 
 returns : tie.Need-returns
 returns c = rw (c .writes .ensures, c .before .after-cmp .ensures, c .before .before .one-if .ensures)

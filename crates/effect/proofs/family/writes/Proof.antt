@@ -1,12 +1,11 @@
-use borrow.Author.Needs.{needs}
 use Rattle.effect.proofs.family.writes.Statement.{statement}
 use Rattle.effect.proofs.family.writes.Tie as tie
 
 following-requires : tie.Need-following-requires
-following-requires c κs = search needs
+following-requires c κs = tt
 
 writing-requires : tie.Need-writing-requires
-writing-requires c κs = search needs
+writing-requires c κs = tt
 
 returns : tie.Need-returns
 returns c = rw (c .writing .ensures, c .before .following .ensures)

@@ -1,15 +1,14 @@
-use borrow.Author.Needs.{needs}
 use Rattle.effect.proofs.load.load_bits.Statement.{statement}
 use Rattle.effect.proofs.load.load_bits.Tie as tie
 
 load-size-requires : tie.Need-load-size-requires
-load-size-requires c κs = search needs
+load-size-requires c κs = tt
 
 size-of-requires : tie.Need-size-of-requires
-size-of-requires c κs = search needs
+size-of-requires c κs = tt
 
 after-load-requires : tie.Need-after-load-requires
-after-load-requires c κs = search needs
+after-load-requires c κs = tt
 
 returns : tie.Need-returns
 returns c = rw (c .after-load .ensures, c .before .size-of .ensures, c .before .before .load-size .ensures)

@@ -4,34 +4,34 @@ use Rattle.effect.proofs.load.loaded.Statement.{statement}
 use Rattle.effect.proofs.load.loaded.Tie as tie
 
 enum-told : tie.Need-enum-told
-enum-told c = search needs
+enum-told c = c .match .keys1
 
 cast-extend-8 : tie.Need-cast-extend-8
 cast-extend-8 c = search needs
 
 extend-8-requires : tie.Need-extend-8-requires
-extend-8-requires c κs = search needs
+extend-8-requires c κs = tt
 
 enum-told-2 : tie.Need-enum-told-2
-enum-told-2 c = search needs
+enum-told-2 c = c .match .keys2
 
 enum-told-3 : tie.Need-enum-told-3
-enum-told-3 c = search needs
+enum-told-3 c = c .match .keys3
 
 cast-extend-16 : tie.Need-cast-extend-16
 cast-extend-16 c = search needs
 
 extend-16-requires : tie.Need-extend-16-requires
-extend-16-requires c κs = search needs
+extend-16-requires c κs = tt
 
 enum-told-4 : tie.Need-enum-told-4
-enum-told-4 c = search needs
+enum-told-4 c = c .match .keys4
 
 enum-told-5 : tie.Need-enum-told-5
-enum-told-5 c = search needs
+enum-told-5 c = c .match .keys5
 
 enum-told-6 : tie.Need-enum-told-6
-enum-told-6 c = search needs
+enum-told-6 c = c .match .keys6
 
 returns : tie.Need-returns
 unfolding loaded
