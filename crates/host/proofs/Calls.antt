@@ -11,7 +11,7 @@ use Rattle.memory.specs.Bytes.{numberAt}
 use Rattle.state.specs.Formed.{allBelow, registersOf}
 use Rattle.execute.specs.Execute.{admits}
 use Rattle.run.specs.Run.{Answer}
-use Rattle.host.specs.Layout.{STATE_BYTES, stateBytes, stateIn, recordLaid, wellLaid, written}
+use Rattle.layout.specs.Layout.{STATE_BYTES, stateBytes, stateIn, recordLaid, wellLaid, written}
 use Rattle.host.specs.Answer.{ANSWER_BYTES, answerBytes}
 use Rattle.host.specs.Call.{modeOf, stateOf, called, taken, served, ranOn, callOf}
 

@@ -1,7 +1,2 @@
-pub mod Rows
-pub mod Numbers
-pub mod Stored
-pub mod Tests
-pub mod Contents
-pub mod Round
+pub mod Answers
 pub mod Calls

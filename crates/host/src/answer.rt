@@ -1,7 +1,7 @@
 // The bytes of an answer.
 use memory::bytes::put_number;
 ghost use mathlib.Core.Path.{_≡_};
-ghost use Rattle.host.specs.Layout.{written};
+ghost use Rattle.layout.specs.Layout.{written};
 ghost use Rattle.host.specs.Answer.{ANSWER_BYTES, answerBytes};
 
 pub const ANSWER_BYTES: usize = 24;

@@ -7,14 +7,13 @@ ghost use mathlib.Core.Bool.{_&&_};
 ghost use lib.Dec.{eqb, leb};
 ghost use Rattle.state.specs.Formed.{registersOf};
 ghost use Rattle.execute.specs.Execute.{admits};
-ghost use Rattle.host.specs.Layout.{stateIn, wellLaid};
+ghost use Rattle.layout.specs.Layout.{stateIn, wellLaid};
 ghost use Rattle.host.specs.Answer.{ANSWER_BYTES};
 ghost use Rattle.run.specs.Run.{answer};
 ghost use Rattle.execute.specs.World.{worldOf};
 ghost use Rattle.host.specs.Call.{modeOf, none, ranOn, called, served, callOf};
 
 pub mod answer; // answer.rt: the 24 bytes of an answer
-pub mod layout; // layout.rt: the 400 bytes of a state
 
 fn mode_of(n: u64) -> Mode
     ensures { λ r. ⌜ r ≡ modeOf n ⌝ }
@@ -44,10 +43,10 @@ fn takes(state: &[u8], answer: usize, mode: u64) -> bool
     if 1 < mode {
         return false;
     }
-    if !layout::well_laid(state) {
+    if !layout::laid::well_laid(state) {
         return false;
     }
-    admits(mode, layout::read_state(state))
+    admits(mode, layout::reading::read_state(state))
 }
 
 // The run of the mode, with no list lent.
@@ -78,11 +77,11 @@ pub extern "C" fn zkir_run(
         answer::write_answer(answer, 9, 0, 0);
         return 9;
     }
-    let r = run_by(mode, layout::read_state(state), fuel, memory);
+    let r = run_by(mode, layout::reading::read_state(state), fuel, memory);
     let stop = r.stop;
     let after = r.state;
     let code = refusal::code(stop);
-    layout::write_state(state, after);
+    layout::writing::write_state(state, after);
     answer::write_answer(answer, code, r.steps, refusal::particular_at(stop));
     code
 }

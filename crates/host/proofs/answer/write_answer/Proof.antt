@@ -1,5 +1,5 @@
-use Rattle.host.proofs.Stored.{answer-stored}
-use Rattle.host.proofs.Rows.{written-none}
+use Rattle.host.proofs.Answers.{answer-stored}
+use Rattle.layout.proofs.Rows.{written-none}
 use Rattle.host.specs.Answer.{ANSWER_BYTES}
 use borrow.Author.Needs.{needs}
 use Rattle.host.proofs.answer.write_answer.Statement.{statement}
