@@ -1,4 +1,6 @@
-// The bytes of a state: pc (8), halt mark, 7 zeros; then for each register kind, bound, 6 zeros, two numbers (8 each).
+// The bytes that a host lends. Those of a state: pc (8), halt mark, 7 zeros; then for each register kind, bound, 6 zeros, two
+// numbers (8 each).
+pub mod answer; // answer.rt: the bytes of an answer
 pub mod laid; // laid.rt: which bytes are those of a state
 pub mod reading; // reading.rt: the state in the bytes
 pub mod writing; // writing.rt: the bytes of a state

@@ -1,43 +1,43 @@
-use Prim.Native.Nat.{_+_}
-use native.Mathlib.Omega.{arith}
-use Rattle.layout.proofs.Numbers.{stored-next}
-use mathlib.Core.Path.{refl, _∙_}
+use mathlib.Core.List.{append-assoc}
+use Rattle.layout.specs.Layout.{recordBytes}
 use borrow.Author.Needs.{needs}
 use Rattle.layout.proofs.writing.put_record.Statement.{statement}
 use Rattle.layout.proofs.writing.put_record.Tie as tie
 
-put-number-requires : tie.Need-put-number-requires
-put-number-requires c κs = search needs
+head-of-requires : tie.Need-head-of-requires
+head-of-requires c κs = search needs
 
-add-put-number : tie.Need-add-put-number
-add-put-number c = search needs
+first-of-requires : tie.Need-first-of-requires
+first-of-requires c κs = search needs
 
-put-number-requires-2 : tie.Need-put-number-requires-2
-put-number-requires-2 c κs = search needs
+second-of-requires : tie.Need-second-of-requires
+second-of-requires c κs = search needs
 
-add-put-number-2 : tie.Need-add-put-number-2
-add-put-number-2 c = search needs
+mul-put-three : tie.Need-mul-put-three
+mul-put-three c = search needs
 
-put-number-requires-3 : tie.Need-put-number-requires-3
-put-number-requires-3 c κs = search needs
+add-put-three : tie.Need-add-put-three
+add-put-three c = search needs
+
+put-three-requires : tie.Need-put-three-requires
+put-three-requires c κs = search needs
 
 same-length : tie.Need-same-length
 same-length c = search needs
 
 returns : tie.Need-returns
-returns c =
-    let at = c .before .before .before .before .before .before .before .before .before .before .before .before .before .args .at in
-    rw (c .before .before .put-number3 .ensures, c .before .before .before .before .before .before .put-number2 .ensures, c .before .before .before .before .before .before .before .before .before .before .put-number .ensures)
-    (stored-next 8 _ _ (at + 8) (at + 16) _ (omega arith) ∙ stored-next 8 _ _ at (at + 8) _ refl)
+unfolding recordBytes
+returns c = rw (c .before .before .put-three .ensures, c .before .before .before .before .before .before .head-of .ensures, c .before .before .before .before .before .first-of .ensures, c .before .before .before .before .second-of .ensures, append-assoc, append-assoc)
 
 pub put-record-spec : {M : Type 1} → statement M
 put-record-spec =
     tie.close
     (tie.spec
-    put-number-requires
-    add-put-number
-    put-number-requires-2
-    add-put-number-2
-    put-number-requires-3
+    head-of-requires
+    first-of-requires
+    second-of-requires
+    mul-put-three
+    add-put-three
+    put-three-requires
     same-length
     returns)

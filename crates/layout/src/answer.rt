@@ -1,8 +1,8 @@
 // The bytes of an answer.
-use memory::bytes::put_number;
+use crate::writing::put_three;
 ghost use mathlib.Core.Path.{_≡_};
 ghost use Rattle.layout.specs.Layout.{written};
-ghost use Rattle.host.specs.Answer.{ANSWER_BYTES, answerBytes};
+ghost use Rattle.layout.specs.Answer.{ANSWER_BYTES, answerBytes};
 
 pub const ANSWER_BYTES: usize = 24;
 
@@ -13,7 +13,5 @@ pub fn write_answer(bytes: &mut [u8], code: u64, steps: u64, particular: u64)
     if bytes.len() != ANSWER_BYTES {
         return;
     }
-    put_number(bytes, 0, 8, code);
-    put_number(bytes, 8, 8, steps);
-    put_number(bytes, 16, 8, particular);
+    put_three(bytes, 0, code, steps, particular);
 }
