@@ -76,11 +76,6 @@ waits-held true v = refl
 waits-held false v = refl
 
 -- the mark
-pub kind-is : (f : Bool) (v : ℕ) → markOf f ≡ kindOf (heldOf f v)
-unfolding markOf kindOf heldOf
-kind-is true v = refl
-kind-is false v = refl
-
 pub mark-back : (n : ℕ) → n ≤ 1 → markOf (eqb n 1) ≡ n
 unfolding markOf
 mark-back n h = by (eqb n 1) refl

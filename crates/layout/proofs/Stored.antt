@@ -39,11 +39,11 @@ header-is pc true = refl
 header-is pc false = refl
 
 -- two bytes and six zeros, as one number
-pub head-is : (kind bound : ℕ) → kind < 256 → bound < 256 → bytes 8 (kind + 256 * bound) ≡ bytes 1 kind ++ (bytes 1 bound ++ bytes 6 0)
+pub head-is : (head kind bound : ℕ) → head ≡ 256 * bound + kind → kind < 256 → bound < 256 → bytes 8 head ≡ bytes 1 kind ++ (bytes 1 bound ++ bytes 6 0)
 unfolding bytes
-head-is kind bound k b =
-    let low : (kind + 256 * bound) % 256 ≡ kind % 256 = omega arith in
-    let rest : (kind + 256 * bound) / 256 ≡ bound = omega arith in
+head-is head kind bound is k b =
+    let low : head % 256 ≡ kind % 256 = omega arith in
+    let rest : head / 256 ≡ bound = omega arith in
     let none : bound / 256 ≡ 0 = omega arith in
     rw (low, rest, none)
 

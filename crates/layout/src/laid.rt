@@ -1,9 +1,10 @@
 // Which bytes are those of a state.
+use crate::HEADER_BYTES;
 use crate::LIMB_LIMIT;
+use crate::RECORD_BYTES;
 use crate::STATE_BYTES;
 use crate::reading::byte_at;
 use crate::reading::read_state;
-use crate::reading::record_at;
 use memory::bytes::number_at;
 ghost use mathlib.Core.Path.{_≡_};
 ghost use Prim.Native.Nat.{_<_};
@@ -29,7 +30,7 @@ fn record_laid(bytes: &[u8], i: usize) -> bool
     requires { ⌜ i < 16 ⌝ }
     ensures { λ r. ⌜ r ≡ recordLaid (now (bytes .entry)) i ⌝ }
 {
-    let at = record_at(i);
+    let at = HEADER_BYTES + RECORD_BYTES * i;
     if number_at(bytes, at + 2, 6) != 0 {
         return false;
     }

@@ -5,18 +5,10 @@ use crate::RECORD_BYTES;
 use memory::bytes::number_at;
 use state::State;
 ghost use mathlib.Core.Path.{_≡_};
-ghost use Prim.Native.Nat.{_<_};
-ghost use lib.Dec.{eqb};
+ghost use Prim.Native.Nat.{_+_, _≤_};
 ghost use Rattle.memory.specs.Bytes.{numberAt};
 ghost use Rattle.state.specs.Held.{kept};
-ghost use Rattle.layout.specs.Layout.{recordAt, kindIn, boundIn, heldBy, heldIn, stateIn};
-
-pub(crate) fn record_at(i: usize) -> usize
-    requires { ⌜ i < 16 ⌝ }
-    ensures { λ r. ⌜ r ≡ recordAt i ⌝ }
-{
-    HEADER_BYTES + RECORD_BYTES * i
-}
+ghost use Rattle.layout.specs.Layout.{STATE_BYTES, heldBy, stateIn};
 
 pub(crate) fn byte_at(bytes: &[u8], at: usize) -> u8
     ensures { λ r. ⌜ r ≡ numberAt 1 (now (bytes .entry)) at ⌝ }
@@ -24,46 +16,17 @@ pub(crate) fn byte_at(bytes: &[u8], at: usize) -> u8
     if at < bytes.len() { bytes[at] } else { 0 }
 }
 
-// How a register that is read is kept.
-fn kept_of(kind: u8, first: u64, second: u64) -> u64
-    ensures { λ r. ⌜ r ≡ kept (heldBy kind first second) ⌝ }
+// How the register is kept whose record starts at a place.
+fn kept_at(bytes: &[u8], at: usize) -> u64
+    requires { ⌜ at ≤ STATE_BYTES ⌝ }
+    ensures { λ r. ⌜ r ≡ kept (heldBy (numberAt 1 (now (bytes .entry)) at) (numberAt 8 (now (bytes .entry)) (at + 8)) (numberAt 8 (now (bytes .entry)) (at + 16))) ⌝ }
 {
-    if kind == 1 {
-        first % LIMB_LIMIT + LIMB_LIMIT * (second % LIMB_LIMIT)
-    } else {
-        first
-    }
-}
-
-fn kept_in(bytes: &[u8], i: usize) -> u64
-    requires { ⌜ i < 16 ⌝ }
-    ensures { λ r. ⌜ r ≡ kept (heldIn (now (bytes .entry)) i) ⌝ }
-{
-    let at = record_at(i);
-    let kind = byte_at(bytes, at);
     let first = number_at(bytes, at + 8, 8);
+    if byte_at(bytes, at) != 1 {
+        return first;
+    }
     let second = number_at(bytes, at + 16, 8);
-    kept_of(kind, first, second)
-}
-
-fn kind_in(bytes: &[u8], i: usize) -> u8
-    requires { ⌜ i < 16 ⌝ }
-    ensures { λ r. ⌜ r ≡ kindIn (now (bytes .entry)) i ⌝ }
-{
-    byte_at(bytes, record_at(i))
-}
-
-fn bound_in(bytes: &[u8], i: usize) -> u8
-    requires { ⌜ i < 16 ⌝ }
-    ensures { λ r. ⌜ r ≡ boundIn (now (bytes .entry)) i ⌝ }
-{
-    byte_at(bytes, record_at(i) + 1)
-}
-
-fn halted_in(bytes: &[u8]) -> bool
-    ensures { λ r. ⌜ r ≡ eqb (numberAt 1 (now (bytes .entry)) 8) 1 ⌝ }
-{
-    byte_at(bytes, 8) == 1
+    first % LIMB_LIMIT + LIMB_LIMIT * (second % LIMB_LIMIT)
 }
 
 pub fn read_state(bytes: &[u8]) -> State
@@ -74,13 +37,14 @@ pub fn read_state(bytes: &[u8]) -> State
     let mut bounds = [0u8; 16];
     let mut i: usize = 0;
     while i < 16 {
-        regs[i] = kept_in(bytes, i);
-        accumulated[i] = kind_in(bytes, i) == 1;
-        bounds[i] = bound_in(bytes, i);
+        let at = HEADER_BYTES + RECORD_BYTES * i;
+        regs[i] = kept_at(bytes, at);
+        accumulated[i] = byte_at(bytes, at) == 1;
+        bounds[i] = byte_at(bytes, at + 1);
         i += 1;
     }
     let pc = number_at(bytes, 0, 8);
-    let halted = halted_in(bytes);
+    let halted = byte_at(bytes, 8) == 1;
     State {
         pc,
         halted,

@@ -14,38 +14,48 @@ ghost use lib.Seq.{sets};
 ghost use Rattle.memory.specs.Bytes.{bytes};
 ghost use Rattle.state.specs.Held.{heldOf};
 ghost use Rattle.state.specs.Formed.{registersOf};
-ghost use Rattle.layout.specs.Layout.{HEADER_BYTES, RECORD_BYTES, STATE_BYTES, markOf, headerBytes, kindOf, firstOf, secondOf, recordAt, recordBytes, records, stateBytes, written};
+ghost use Rattle.layout.specs.Layout.{HEADER_BYTES, RECORD_BYTES, STATE_BYTES, markOf, recordBytes, records, stateBytes, written};
+ghost use Rattle.layout.specs.Numbers.{numbersOf};
 
-struct Register {
-    waits: bool,
-    v: u64,
-    bound: u8,
+// A register's record as three numbers: kind, bound and six zeros are the first.
+struct Record {
+    head: u64,
+    first: u64,
+    second: u64,
 }
 
-// A halt mark, or a kind.
-fn bit_of(set: bool) -> u64
-    ensures { λ r. ⌜ r ≡ markOf set ⌝ }
+fn mark_of(halted: bool) -> u64
+    ensures { λ r. ⌜ r ≡ markOf halted ⌝ }
 {
-    if set { 1 } else { 0 }
+    if halted { 1 } else { 0 }
 }
 
-// Kind, bound and six zeros as one number.
-fn head_of(waits: bool, v: u64, bound: u8) -> u64
-    ensures { λ r. ⌜ bytes 8 r ≡ bytes 1 (kindOf (heldOf waits v)) ++ (bytes 1 bound ++ bytes 6 0) ⌝ }
+fn record_of(waits: bool, v: u64, bound: u8) -> Record
+    ensures { λ r. ⌜ numbersOf r ≡ recordBytes (heldOf waits v) bound ⌝ }
 {
-    bit_of(waits) + 256 * bound as u64
+    let noted = 256 * bound as u64;
+    if waits {
+        return Record {
+            head: noted + 1,
+            first: v % LIMB_LIMIT,
+            second: v / LIMB_LIMIT,
+        };
+    }
+    Record {
+        head: noted,
+        first: v,
+        second: 0,
+    }
 }
 
-fn first_of(waits: bool, v: u64) -> u64
-    ensures { λ r. ⌜ r ≡ firstOf (heldOf waits v) ⌝ }
+fn record_in(s: State, i: usize) -> Record
+    requires { ⌜ i < 16 ⌝ }
+    ensures { λ r. ⌜ numbersOf r ≡ recordBytes (heldOf (getD (s .accumulated) i false) (getD (s .regs) i 0)) (getD (s .bounds) i 0) ⌝ }
 {
-    if waits { v % LIMB_LIMIT } else { v }
-}
-
-fn second_of(waits: bool, v: u64) -> u64
-    ensures { λ r. ⌜ r ≡ secondOf (heldOf waits v) ⌝ }
-{
-    if waits { v / LIMB_LIMIT } else { 0 }
+    let regs = s.regs;
+    let accumulated = s.accumulated;
+    let bounds = s.bounds;
+    record_of(accumulated[i], regs[i], bounds[i])
 }
 
 // The mark and its zeros are one number too.
@@ -65,38 +75,20 @@ pub(crate) fn put_three(into: &mut [u8], at: usize, a: u64, b: u64, c: u64)
     put_number(into, at + 16, 8, c);
 }
 
-fn put_record(bytes: &mut [u8], i: usize, r: Register)
-    requires { ⌜ i < 16 ⌝ }
-    requires { ⌜ length (now bytes) ≡ STATE_BYTES ⌝ }
-    ensures { λ _. ⌜ now (bytes .exit) ≡ sets (now (bytes .entry)) (recordAt i) (recordBytes (heldOf (r .waits) (r .v)) (r .bound)) ⌝ }
-{
-    let head = head_of(r.waits, r.v, r.bound);
-    let first = first_of(r.waits, r.v);
-    let second = second_of(r.waits, r.v);
-    put_three(bytes, HEADER_BYTES + RECORD_BYTES * i, head, first, second);
-}
-
-fn register_of(s: State, i: usize) -> Register
-    requires { ⌜ i < 16 ⌝ }
-    ensures { λ r. ⌜ r ≡ record { waits = getD (s .accumulated) i false; v = getD (s .regs) i 0; bound = getD (s .bounds) i 0 } ⌝ }
-{
-    let regs = s.regs;
-    let accumulated = s.accumulated;
-    let bounds = s.bounds;
-    Register {
-        waits: accumulated[i],
-        v: regs[i],
-        bound: bounds[i],
-    }
-}
-
 fn put_records(bytes: &mut [u8], s: State)
     requires { ⌜ length (now bytes) ≡ STATE_BYTES ⌝ }
     ensures { λ _. ⌜ now (bytes .exit) ≡ sets (now (bytes .entry)) HEADER_BYTES (records 16 0 (registersOf s)) ⌝ }
 {
     let mut i: usize = 0;
     while i < 16 {
-        put_record(bytes, i, register_of(s, i));
+        let r = record_in(s, i);
+        put_three(
+            bytes,
+            HEADER_BYTES + RECORD_BYTES * i,
+            r.head,
+            r.first,
+            r.second,
+        );
         i += 1;
     }
 }
@@ -108,6 +100,6 @@ pub fn write_state(bytes: &mut [u8], s: State)
     if bytes.len() != STATE_BYTES {
         return;
     }
-    put_header(bytes, s.pc, bit_of(s.halted));
+    put_header(bytes, s.pc, mark_of(s.halted));
     put_records(bytes, s);
 }

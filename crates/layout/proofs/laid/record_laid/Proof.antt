@@ -5,8 +5,11 @@ use borrow.Author.Needs.{needs}
 use Rattle.layout.proofs.laid.record_laid.Statement.{statement}
 use Rattle.layout.proofs.laid.record_laid.Tie as tie
 
-record-at-requires : tie.Need-record-at-requires
-record-at-requires c κs = search needs
+mul-at : tie.Need-mul-at
+mul-at c = search needs
+
+add-at : tie.Need-add-at
+add-at c = search needs
 
 add-number-at : tie.Need-add-number-at
 add-number-at c = search needs
@@ -16,7 +19,7 @@ number-at-requires c κs = search needs
 
 returns : tie.Need-returns
 unfolding recordLaid
-returns c = simp (ne-eqb _ _ (rw (c .before .number-at .ensures, c .before .before .record-at .ensures) at (c .if1 .taken)))
+returns c = simp (ne-eqb _ _ (rw (c .before .number-at .ensures) at (c .if1 .taken)))
 
 byte-at-requires : tie.Need-byte-at-requires
 byte-at-requires c κs = search needs
@@ -38,13 +41,14 @@ numbers-fit-requires c κs = search needs
 
 returns-2 : tie.Need-returns-2
 unfolding recordLaid
-returns-2 c = simp (eq-eqb _ _ (rw (c .before .before .before .before .before .number-at .ensures, c .before .before .before .before .before .before .record-at .ensures) at (c .before .before .before .before .if1 .left))) (c .numbers-fit .ensures ∙ rw (c .before .number-at3 .ensures, c .before .before .number-at2 .ensures, c .before .before .before .byte-at .ensures, c .before .before .before .before .before .before .record-at .ensures))
+returns-2 c = simp (eq-eqb _ _ (rw (c .before .before .before .before .before .number-at .ensures) at (c .before .before .before .before .if1 .left))) (c .numbers-fit .ensures ∙ rw (c .before .number-at3 .ensures, c .before .before .number-at2 .ensures, c .before .before .before .byte-at .ensures))
 
 pub record-laid-spec : {M : Type 1} → statement M
 record-laid-spec =
     tie.close
     (tie.spec
-    record-at-requires
+    mul-at
+    add-at
     add-number-at
     number-at-requires
     returns

@@ -27,8 +27,14 @@ abbrev μ-loop : tie.MeasureT-loop
 loop-holds : tie.Need-loop-holds Inv-loop μ-loop
 loop-holds c = (omega arith, refl, refl, refl)
 
-kept-in-requires : tie.Need-kept-in-requires Inv-loop μ-loop
-kept-in-requires c κs = search needs
+mul-at : tie.Need-mul-at Inv-loop μ-loop
+mul-at c = search needs
+
+add-at : tie.Need-add-at Inv-loop μ-loop
+add-at c = search needs
+
+kept-at-requires : tie.Need-kept-at-requires Inv-loop μ-loop
+kept-at-requires c κs = search needs
 
 mul-regs : tie.Need-mul-regs Inv-loop μ-loop
 mul-regs c = search needs
@@ -36,14 +42,17 @@ mul-regs c = search needs
 array-write-regs : tie.Need-array-write-regs Inv-loop μ-loop
 array-write-regs c = search needs
 
-kind-in-requires : tie.Need-kind-in-requires Inv-loop μ-loop
-kind-in-requires c κs = search needs
+byte-at-requires : tie.Need-byte-at-requires Inv-loop μ-loop
+byte-at-requires c κs = search needs
 
 array-write-accumulated : tie.Need-array-write-accumulated Inv-loop μ-loop
 array-write-accumulated c = search needs
 
-bound-in-requires : tie.Need-bound-in-requires Inv-loop μ-loop
-bound-in-requires c κs = search needs
+add-byte-at : tie.Need-add-byte-at Inv-loop μ-loop
+add-byte-at c = search needs
+
+byte-at-requires-2 : tie.Need-byte-at-requires-2 Inv-loop μ-loop
+byte-at-requires-2 c κs = search needs
 
 array-write-bounds : tie.Need-array-write-bounds Inv-loop μ-loop
 array-write-bounds c = search needs
@@ -59,16 +68,16 @@ loop-again c =
     let b = now (c .before .before .before .before .before .before .args .bytes) in
     let l = c .before .before .before .before .loop in (
       omega arith,
-      sym (table-more (l .regs) 16 (l .i) (λ k. kept (heldIn b k)) (omega arith) (c .before .before .kept-in .ensures)) ∙ l .inv .1,
-      sym (table-more (l .accumulated) 16 (l .i) (λ k. waits (heldIn b k)) (omega arith) (rw (c .before .kind-in .ensures) (waits-by _ _ _))) ∙ l .inv .2,
-      sym (table-more (l .bounds) 16 (l .i) (boundIn b) (omega arith) (c .bound-in .ensures)) ∙ l .inv .3,
+      sym (table-more (l .regs) 16 (l .i) (λ k. kept (heldIn b k)) (omega arith) (c .before .before .kept-at .ensures)) ∙ l .inv .1,
+      sym (table-more (l .accumulated) 16 (l .i) (λ k. waits (heldIn b k)) (omega arith) (rw (c .before .byte-at .ensures) (waits-by _ _ _))) ∙ l .inv .2,
+      sym (table-more (l .bounds) 16 (l .i) (boundIn b) (omega arith) (c .byte-at2 .ensures)) ∙ l .inv .3,
     )
 
 number-at-requires : tie.Need-number-at-requires Inv-loop μ-loop
 number-at-requires c κs = search needs
 
-halted-in-requires : tie.Need-halted-in-requires Inv-loop μ-loop
-halted-in-requires c κs = search needs
+byte-at-requires-3 : tie.Need-byte-at-requires-3 Inv-loop μ-loop
+byte-at-requires-3 c κs = search needs
 
 returns : tie.Need-returns Inv-loop μ-loop
 unfolding stateIn
@@ -77,7 +86,7 @@ returns c =
     let l = c .before .before .before .loop in
     rw (
       c .before .number-at .ensures,
-      c .halted-in .ensures,
+      c .byte-at3 .ensures,
       filled 16 (l .regs) (replicate 16 0) (l .i) (λ k. kept (heldIn b k)) (omega arith) refl (l .inv .1),
       filled 16 (l .accumulated) (replicate 16 false) (l .i) (λ k. waits (heldIn b k)) (omega arith) refl (l .inv .2),
       filled 16 (l .bounds) (replicate 16 0) (l .i) (boundIn b) (omega arith) refl (l .inv .3),
@@ -90,16 +99,19 @@ read-state-spec =
     Inv-loop
     μ-loop
     loop-holds
-    kept-in-requires
+    mul-at
+    add-at
+    kept-at-requires
     mul-regs
     array-write-regs
-    kind-in-requires
+    byte-at-requires
     array-write-accumulated
-    bound-in-requires
+    add-byte-at
+    byte-at-requires-2
     array-write-bounds
     add-i
     loop-less
     loop-again
     number-at-requires
-    halted-in-requires
+    byte-at-requires-3
     returns)

@@ -22,11 +22,17 @@ abbrev μ-loop : tie.MeasureT-loop
 loop-holds : tie.Need-loop-holds Inv-loop μ-loop
 loop-holds c = (refl, omega arith, refl)
 
-register-of-requires : tie.Need-register-of-requires Inv-loop μ-loop
-register-of-requires c κs = search needs
+record-in-requires : tie.Need-record-in-requires Inv-loop μ-loop
+record-in-requires c κs = search needs
 
-put-record-requires : tie.Need-put-record-requires Inv-loop μ-loop
-put-record-requires c κs = search needs
+mul-put-three : tie.Need-mul-put-three Inv-loop μ-loop
+mul-put-three c = search needs
+
+add-put-three : tie.Need-add-put-three Inv-loop μ-loop
+add-put-three c = search needs
+
+put-three-requires : tie.Need-put-three-requires Inv-loop μ-loop
+put-three-requires c κs = search needs
 
 add-i : tie.Need-add-i Inv-loop μ-loop
 add-i c = search needs
@@ -39,7 +45,7 @@ loop-again c =
     let l = c .before .before .before .before .before .before .loop in (
       omega arith,
       omega arith,
-      rw (c .before .before .put-record .ensures, c .before .before .before .register-of .ensures) (sym (records-more (registersOf (c .before .before .before .before .before .before .before .before .args .s)) (l .bytes) (l .i) (omega arith)) ∙ l .inv .2),
+      rw (c .before .before .put-three .ensures, c .before .before .before .before .record-in .ensures) (sym (records-more (registersOf (c .before .before .before .before .before .before .before .before .args .s)) (l .bytes) (l .i) (omega arith)) ∙ l .inv .2),
     )
 
 same-length : tie.Need-same-length Inv-loop μ-loop
@@ -55,8 +61,10 @@ put-records-spec =
     Inv-loop
     μ-loop
     loop-holds
-    register-of-requires
-    put-record-requires
+    record-in-requires
+    mul-put-three
+    add-put-three
+    put-three-requires
     add-i
     loop-less
     loop-again
