@@ -1,4 +1,4 @@
--- `checks::machine::run` meets its contract: a walk of its MIR, by hand, with a loop. In a turn the memory is lent again to `turn`, and the slice of records to `note_at`, each for a lifetime made for the call, and both come back.
+-- `checked::run` meets its contract: a walk of its MIR, by hand, with a loop. In a turn the memory is lent again to `turn`, and the slice of records to `note_at`, each for a lifetime made for the call, and both come back.
 -- The loop's invariant is over a record, `Turn`: what the run has come to, and that it still comes to the run's answer. What falls is what is left, and whether it goes on. No field of the state is named.
 -- Assumes nothing.
 use Rattle.walks.proofs.Walk.{ !, Atoms, Contract, Fun, GName, Given, Heap, InvImage·wf, Is, Item, Lft, Lifetime, List, Meets, Memory, MutSlice, Nat·lt-wfRel, RefT, Room, Routine, SProp, Share, Stays, Tables, Triple, Ty, URA, Val, Walks, WellFounded, WpFn, WpFn-mono, [], _$_, _++_, _<_, _^_, _∙_, _∵_, _∷_, _≡_, _⊛_, addr, afterTurn, again, agg, alloc0, alloc1, and-then, ap, assigns, assigns-last, await, blocks, branches, by, calls-at, cited, done, drop, emp, ends-at, ensured, ent, enter, entered, erased, fact, false, fat, fdies, feqL, first, fjoin, fld, flft, fmOf, forget, frame, free0, free1, from, froom, fsplit, fst∗, ftrue, fullShare, givenOf, goes-none, goes-slice, heard, hop, id⊢, init, join, keep, land, lasts, later, length, lft-end, lft-new, load, look, look-in, loops, mem, move, mut, mut-slice-tells, named, no-more, nothing, nothing-lawful, of-opd, onEntry, only, owned, owns, params1, pass0, pass1, peeks, pick, plain, pointee, qed, raw, refl, returns-within, rewrite, says, sem, sep, set, shows, slice-vals, sliceTy, sliceVal, some, split, stay-none, stay-slice, stop, store, sub, subst, suffices, sym, tables, tablesOf, tripleOf, true, tyBool, tyInt, tyRef, tyUnit, u64, u8, uint-makes, uint-tells, uint-vals, unit, use0, use1, use2, use3, usize, via, vint, w64, w8, walk-meets, walkOf, walked, whole, yes, ‵, ℕ, ⋆}
@@ -11,40 +11,40 @@ use Rattle.execute.specs.World.{worldOf}
 use Rattle.execute.specs.declared.Mode.{Mode}
 use Rattle.run.specs.Step.{documentRules}
 use Rattle.run.specs.Run.{Answer, run as runs}
 use Rattle.checks.specs.Records.{listed}
-use Rattle.checks.specs.Machine.{Ahead, Begins, Turns, ahead}
+use Rattle.checked.specs.Machine.{Ahead, Begins, Turns, ahead}
 use Rattle.checks.specs.declared.Pending.{Pending}
-use Rattle.checks.specs.declared.machine.Going.{Going}
-use Rattle.checks.specs.declared.machine.Turned.{Turned}
-use Rattle.checks.proofs.Turning.{ended}
+use Rattle.checked.specs.declared.Going.{Going}
+use Rattle.checked.specs.declared.Turned.{Turned}
+use Rattle.checked.proofs.Turning.{ended}
 use Rattle.checks.proofs.Noting.{valsP, Note, to-note, goes-note}
 use Rattle.execute.proofs.Mode as O
 use Rattle.execute.proofs.Mode.Laws as O′
 use Rattle.state.proofs.State as T
 use Rattle.state.proofs.State.Laws as T′
 use Rattle.run.proofs.Ran as N
 use Rattle.run.proofs.Ran.Laws as N′
 use Rattle.checks.proofs.Pending as K
-use Rattle.checks.proofs.machine.Going as S
-use Rattle.checks.proofs.machine.Going.Laws as S′
-use Rattle.checks.proofs.machine.Turned as D
-use Rattle.checks.proofs.machine.Turned.Laws as D′
-use Rattle.checks.proofs.machine.begin as begin
-use Rattle.checks.proofs.machine.begin.Symbol as begin-def
-use Rattle.checks.proofs.machine.begin.Symbol.{name as #begin}
-use Rattle.checks.proofs.machine.begin.Met as begin-thm
-use Rattle.checks.proofs.machine.turn as turn
-use Rattle.checks.proofs.machine.turn.Symbol as turn-def
-use Rattle.checks.proofs.machine.turn.Symbol.{name as #turn}
-use Rattle.checks.proofs.machine.turn.Met as turn-thm
+use Rattle.checked.proofs.Going as S
+use Rattle.checked.proofs.Going.Laws as S′
+use Rattle.checked.proofs.Turned as D
+use Rattle.checked.proofs.Turned.Laws as D′
+use Rattle.checked.proofs.begin as begin
+use Rattle.checked.proofs.begin.Symbol as begin-def
+use Rattle.checked.proofs.begin.Symbol.{name as #begin}
+use Rattle.checked.proofs.begin.Met as begin-thm
+use Rattle.checked.proofs.turn as turn
+use Rattle.checked.proofs.turn.Symbol as turn-def
+use Rattle.checked.proofs.turn.Symbol.{name as #turn}
+use Rattle.checked.proofs.turn.Met as turn-thm
 use Rattle.checks.proofs.note_at as note-at
 use Rattle.checks.proofs.note_at.Symbol as note-at-def
 use Rattle.checks.proofs.note_at.Symbol.{name as #note-at}
 use Rattle.checks.proofs.note_at.Met as note-at-thm
-use Rattle.checks.proofs.machine.run.Key.{name as #run}
-use Rattle.checks.proofs.machine.run as self
-use Rattle.checks.proofs.machine.run.Statement as stated
-use Rattle.checks.proofs.machine.run.Code as code
+use Rattle.checked.proofs.run.Key.{name as #run}
+use Rattle.checked.proofs.run as self
+use Rattle.checked.proofs.run.Statement as stated
+use Rattle.checked.proofs.run.Code as code
 
 abbrev stayed : Stays (self.ended .signature .params) (self.ended .kept)
 stayed = (stay-none (λ _. O.the-row) yes, (stay-none (λ _. T.the-row) yes, (stay-none (λ _. u64) yes, (stay-slice (0 ∷ []) tt (plain (λ _. u8)), (stay-slice (1 ∷ []) tt (plain (λ _. K.the-row)), (stay-none (λ _. usize) yes, tt))))))
@@ -281,6 +281,6 @@ run-spec 𝓤 H 𝓜 𝓖 𝓡 =
     entered 𝓤 H (tripleOf 𝓤 H (𝓖 .A) self.signature (self.spec 𝓤 H (𝓖 .A) (𝓜 .mem) (𝓡 .run)))
     (tables 𝓤 H 𝓜 𝓡 code.env .C) (tables 𝓤 H 𝓜 𝓡 code.env .Λ) #run code.function (code.unfolded 𝓤 H 𝓜 𝓡)
     (self-meets 𝓤 H (𝓖 .A) (givenOf 𝓤 H 𝓜 𝓖) (𝓜 .mem) (𝓡 .run) (tablesOf 𝓤 H 𝓜 (tables 𝓤 H 𝓜 𝓡 code.env))
-    (cited 𝓤 H (Begin 𝓤 H (𝓖 .A) (𝓜 .mem) (𝓡 .run)) 𝓜 𝓡 code.env #begin begin-def.routine code.calls-checks·machine·begin (begin-thm.met 𝓤 H 𝓜 𝓖 𝓡))
-    (cited 𝓤 H (Turning 𝓤 H (𝓖 .A) (𝓜 .mem) (𝓡 .run)) 𝓜 𝓡 code.env #turn turn-def.routine code.calls-checks·machine·turn (turn-thm.met 𝓤 H 𝓜 𝓖 𝓡))
+    (cited 𝓤 H (Begin 𝓤 H (𝓖 .A) (𝓜 .mem) (𝓡 .run)) 𝓜 𝓡 code.env #begin begin-def.routine code.calls-checked·begin (begin-thm.met 𝓤 H 𝓜 𝓖 𝓡))
+    (cited 𝓤 H (Turning 𝓤 H (𝓖 .A) (𝓜 .mem) (𝓡 .run)) 𝓜 𝓡 code.env #turn turn-def.routine code.calls-checked·turn (turn-thm.met 𝓤 H 𝓜 𝓖 𝓡))
     (cited 𝓤 H (Note 𝓤 H (𝓖 .A) (𝓜 .mem) (𝓡 .run)) 𝓜 𝓡 code.env #note-at note-at-def.routine code.calls-checks·note-at (note-at-thm.met 𝓤 H 𝓜 𝓖 𝓡)))

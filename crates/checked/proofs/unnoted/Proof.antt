@@ -1,6 +1,6 @@
 use borrow.Author.Needs.{needs}
-use Rattle.checks.proofs.machine.unnoted.Statement.{statement}
-use Rattle.checks.proofs.machine.unnoted.Tie as tie
+use Rattle.checked.proofs.unnoted.Statement.{statement}
+use Rattle.checked.proofs.unnoted.Tie as tie
 
 nothing-requires : tie.Need-nothing-requires
 nothing-requires c κs = search needs

@@ -1,9 +1,9 @@
 use mathlib.Core.Path.{sym, _∙_}
 use borrow.Author.Tests.{not-true, not-false}
-use Rattle.checks.proofs.Turning.{begins-malformed, begins}
+use Rattle.checked.proofs.Turning.{begins-malformed, begins}
 use borrow.Author.Needs.{needs}
-use Rattle.checks.proofs.machine.begin.Statement.{statement}
-use Rattle.checks.proofs.machine.begin.Tie as tie
+use Rattle.checked.proofs.begin.Statement.{statement}
+use Rattle.checked.proofs.begin.Tie as tie
 
 takes-requires : tie.Need-takes-requires
 takes-requires c κs = search needs

@@ -13,12 +13,12 @@ use Rattle.run.specs.Step.{Left, left, documentRules, step}
 use Rattle.run.specs.Run.{Answer, answer, after, loop, run}
 use Rattle.run.specs.declared.OneStep.{OneStep}
 use Rattle.run.specs.declared.Ran.{Ran}
 use Rattle.checks.specs.Records.{listed}
 use Rattle.checks.specs.declared.Pending.{Pending}
-use Rattle.checks.specs.declared.machine.Noted.{Noted}
-use Rattle.checks.specs.declared.machine.Moved.{Moved}
-use Rattle.checks.specs.declared.machine.Going.{Going}
-use Rattle.checks.specs.declared.machine.Turned.{Turned}
+use Rattle.checked.specs.declared.Noted.{Noted}
+use Rattle.checked.specs.declared.Moved.{Moved}
+use Rattle.checked.specs.declared.Going.{Going}
+use Rattle.checked.specs.declared.Turned.{Turned}
 
 -- what the code gives back, with what was lent to it
 abbrev pub steppedOver : OneStep → List ℕ → List Pending → Left

@@ -1,8 +1,8 @@
 use mathlib.Core.Path.{sym, _∙_}
 use borrow.Author.Tests.{not-true, not-false}
 use borrow.Author.Needs.{needs}
-use Rattle.checks.proofs.machine.takes.Statement.{statement}
-use Rattle.checks.proofs.machine.takes.Tie as tie
+use Rattle.checked.proofs.takes.Statement.{statement}
+use Rattle.checked.proofs.takes.Tie as tie
 
 admits-requires : tie.Need-admits-requires
 admits-requires c κs = search needs

@@ -1,7 +1,7 @@
-use Rattle.checks.proofs.Turning.{note-unneeded, note-full, note-room}
+use Rattle.checked.proofs.Turning.{note-unneeded, note-full, note-room}
 use borrow.Author.Needs.{needs}
-use Rattle.checks.proofs.machine.note.Statement.{statement}
-use Rattle.checks.proofs.machine.note.Tie as tie
+use Rattle.checked.proofs.note.Statement.{statement}
+use Rattle.checked.proofs.note.Tie as tie
 
 enum-told : tie.Need-enum-told
 enum-told c = search needs

@@ -1,7 +1,7 @@
-use Rattle.checks.proofs.Turning.{within, turned}
+use Rattle.checked.proofs.Turning.{within, turned}
 use borrow.Author.Needs.{needs}
-use Rattle.checks.proofs.machine.turn.Statement.{statement}
-use Rattle.checks.proofs.machine.turn.Tie as tie
+use Rattle.checked.proofs.turn.Statement.{statement}
+use Rattle.checked.proofs.turn.Tie as tie
 
 full-at-requires : tie.Need-full-at-requires
 full-at-requires c κs = search needs

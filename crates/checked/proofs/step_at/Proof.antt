@@ -1,9 +1,9 @@
 use mathlib.Core.Path.{sym, _∙_}
 use borrow.Author.Tests.{not-true, not-false}
-use Rattle.checks.proofs.Turning.{steps-malformed, steps-taken}
+use Rattle.checked.proofs.Turning.{steps-malformed, steps-taken}
 use borrow.Author.Needs.{needs}
-use Rattle.checks.proofs.machine.step_at.Statement.{statement}
-use Rattle.checks.proofs.machine.step_at.Tie as tie
+use Rattle.checked.proofs.step_at.Statement.{statement}
+use Rattle.checked.proofs.step_at.Tie as tie
 
 takes-requires : tie.Need-takes-requires
 takes-requires c κs = search needs

@@ -1,6 +1,6 @@
 // Step and run over a lent list of records, in both modes. The functions of `run` do the work and give the check back; it is listed here.
-use crate::Pending;
-use crate::note_at;
+use checks::Pending;
+use checks::note_at;
 use execute::Check;
 use execute::Mode;
 use execute::Went;
@@ -19,8 +19,8 @@ ghost use Rattle.execute.specs.Execute.{admits};
 ghost use Rattle.run.specs.Pending.{fullAt};
 ghost use Rattle.run.specs.Step.{documentRules, step};
 ghost use Rattle.run.specs.Run.{run};
 ghost use Rattle.checks.specs.Records.{listed};
-ghost use Rattle.checks.specs.Machine.{steppedOver, ranOver, Notes, Steps, Begins, Turns};
+ghost use Rattle.checked.specs.Machine.{steppedOver, ranOver, Notes, Steps, Begins, Turns};
 
 // The count after a check, and what is to be listed, which stands beyond the list where nothing is.
 struct Noted {

@@ -1,4 +1,4 @@
--- What the covered functions of `machine` give, from the contracts that they call: the legs of `run`, and the check at its place.
+-- What the covered functions of this crate give, from the contracts that they call: the legs of `run`, and the check at its place.
 use Prim.Native.Nat.{ℕ, zero, suc, _+_, _-_, _%_, _<_, _≤_, _^_}
 use mathlib.Core.Path.{_≡_, refl, sym, ap, _∙_}
 use mathlib.Core.Bool.{Bool, true, false, cond, not, _&&_}
@@ -26,12 +26,12 @@ use Rattle.run.specs.Leg.{Leg, legIn, gone}
 use Rattle.run.specs.declared.leg.Gone.{Gone}
 use Rattle.run.proofs.Loops.{step-malformed, step-taken, run-malformed, run-halted, run-taken}
 use Rattle.run.proofs.Legs.{onward, loop-is-legs, step-is-leg, leg-within, leg-moves}
 use Rattle.checks.specs.Records.{listed}
-use Rattle.checks.specs.Machine.{ranOver, Notes, Steps, Begins, Ahead, comesTo, number, ahead, Turns}
+use Rattle.checked.specs.Machine.{ranOver, Notes, Steps, Begins, Ahead, comesTo, number, ahead, Turns}
 use Rattle.checks.specs.declared.Pending.{Pending}
-use Rattle.checks.specs.declared.machine.Noted.{Noted}
-use Rattle.checks.specs.declared.machine.Going.{Going}
+use Rattle.checked.specs.declared.Noted.{Noted}
+use Rattle.checked.specs.declared.Going.{Going}
 use Rattle.checks.proofs.Listed.{none, made, fits-is, room-is, listed-more, listed-same}
 
 -- the check at its place
 module _ (pc room n : ℕ) where

@@ -1,4 +1,4 @@
--- `checks::machine::step` meets its contract: a walk of its MIR, by hand. `step_at` is told the room and the count, and is lent the memory's own borrow; what it gives to be listed goes to `note_at` with the slice's own borrow.
+-- `checked::step` meets its contract: a walk of its MIR, by hand. `step_at` is told the room and the count, and is lent the memory's own borrow; what it gives to be listed goes to `note_at` with the slice's own borrow.
 -- No field of the state is named.
 -- Assumes nothing.
 use Rattle.walks.proofs.Walk.{ !, Atoms, Calls, Contract, FmC, Fun, GName, Given, Heap, Is, Lft, List, Loops, Meets, Memory, MutSlice, RefT, Room, Routine, SProp, Share, Stays, Tables, Triple, URA, Val, Walks, WpFn, WpFn-mono, [], _$_, _++_, _<_, _^_, _∵_, _∷_, _≡_, _⊛_, addr, agg, alloc0, alloc1, and-then, ap, assigns, await, by, calls-at, cited, done, drop, emp, ends-at, ensured, ent, enter, entered, fact, fat, feqL, finally, fjoin, fld, flft, fmOf, forget, frame, free0, free1, from, fsplit, fst∗, ftrue, fullShare, gave-slice, givenOf, goes-gave-slice, goes-none, heard, hop, id⊢, init, join, keep, land, lasts, later, length, load, look, look-in, mem, move, mut-slice-tells, named, no-more, nothing, nothing-lawful, of-opd, onEntry, only, owned, owns, params1, pass0, pass1, peeks, pick, plain, qed, raw, refl, returns, rewrite, says, sem, sep, set, shows, slice-vals, sliceVal, some, split, stay-none, stop, sub, suffices, tables, tablesOf, tripleOf, u8, uint-makes, uint-tells, uint-vals, unit, use1, use2, usize, via, vint, w64, walk-meets, walkOf, walked, whole, yes, ‵, ℕ, ⋆}
@@ -6,31 +6,31 @@ use denote.Struct.Laws as LL
 use denote.Enum.Laws as EL
 use Rattle.state.specs.declared.State.{State}
 use Rattle.execute.specs.declared.Mode.{Mode}
-use Rattle.checks.specs.Machine.{Steps}
+use Rattle.checked.specs.Machine.{Steps}
 use Rattle.checks.specs.declared.Pending.{Pending}
-use Rattle.checks.specs.declared.machine.Moved.{Moved}
+use Rattle.checked.specs.declared.Moved.{Moved}
 use Rattle.checks.proofs.Noting.{valsP, Note, to-note, goes-note}
 use Rattle.execute.proofs.Mode as O
 use Rattle.execute.proofs.Mode.Laws as O′
 use Rattle.state.proofs.State as T
 use Rattle.state.proofs.State.Laws as T′
 use Rattle.run.proofs.OneStep as N
 use Rattle.run.proofs.OneStep.Laws as N′
 use Rattle.checks.proofs.Pending as K
-use Rattle.checks.proofs.machine.Moved as D
-use Rattle.checks.proofs.machine.Moved.Laws as D′
-use Rattle.checks.proofs.machine.step_at as step-at
-use Rattle.checks.proofs.machine.step_at.Symbol as step-at-def
-use Rattle.checks.proofs.machine.step_at.Symbol.{name as #step-at}
-use Rattle.checks.proofs.machine.step_at.Met as step-at-thm
+use Rattle.checked.proofs.Moved as D
+use Rattle.checked.proofs.Moved.Laws as D′
+use Rattle.checked.proofs.step_at as step-at
+use Rattle.checked.proofs.step_at.Symbol as step-at-def
+use Rattle.checked.proofs.step_at.Symbol.{name as #step-at}
+use Rattle.checked.proofs.step_at.Met as step-at-thm
 use Rattle.checks.proofs.note_at as note-at
 use Rattle.checks.proofs.note_at.Symbol as note-at-def
 use Rattle.checks.proofs.note_at.Symbol.{name as #note-at}
 use Rattle.checks.proofs.note_at.Met as note-at-thm
-use Rattle.checks.proofs.machine.step.Key.{name as #step}
-use Rattle.checks.proofs.machine.step as self
-use Rattle.checks.proofs.machine.step.Statement as stated
-use Rattle.checks.proofs.machine.step.Code as code
+use Rattle.checked.proofs.step.Key.{name as #step}
+use Rattle.checked.proofs.step as self
+use Rattle.checked.proofs.step.Statement as stated
+use Rattle.checked.proofs.step.Code as code
 
 abbrev stayed : Stays (self.ended .signature .params) (self.ended .kept)
 stayed = (stay-none (λ _. O.the-row) yes, (stay-none (λ _. T.the-row) yes, (gave-slice (0 ∷ []) tt (plain (λ _. u8)), (gave-slice (1 ∷ []) tt (plain (λ _. K.the-row)), (stay-none (λ _. usize) yes, tt)))))
@@ -152,5 +152,5 @@ step-spec 𝓤 H 𝓜 𝓖 𝓡 =
     entered 𝓤 H (tripleOf 𝓤 H (𝓖 .A) self.signature (self.spec 𝓤 H (𝓖 .A) (𝓜 .mem) (𝓡 .run)))
     (tables 𝓤 H 𝓜 𝓡 code.env .C) (tables 𝓤 H 𝓜 𝓡 code.env .Λ) #step code.function (code.unfolded 𝓤 H 𝓜 𝓡)
     (self-meets 𝓤 H (𝓖 .A) (givenOf 𝓤 H 𝓜 𝓖) (𝓜 .mem) (𝓡 .run) (tablesOf 𝓤 H 𝓜 (tables 𝓤 H 𝓜 𝓡 code.env))
-    (cited 𝓤 H (Step 𝓤 H (𝓖 .A) (𝓜 .mem) (𝓡 .run)) 𝓜 𝓡 code.env #step-at step-at-def.routine code.calls-checks·machine·step-at (step-at-thm.met 𝓤 H 𝓜 𝓖 𝓡))
+    (cited 𝓤 H (Step 𝓤 H (𝓖 .A) (𝓜 .mem) (𝓡 .run)) 𝓜 𝓡 code.env #step-at step-at-def.routine code.calls-checked·step-at (step-at-thm.met 𝓤 H 𝓜 𝓖 𝓡))
     (cited 𝓤 H (Note 𝓤 H (𝓖 .A) (𝓜 .mem) (𝓡 .run)) 𝓜 𝓡 code.env #note-at note-at-def.routine code.calls-checks·note-at (note-at-thm.met 𝓤 H 𝓜 𝓖 𝓡)))
