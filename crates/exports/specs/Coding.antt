@@ -13,7 +13,7 @@ use Rattle.instruction.specs.declared.Decoded.{Decoded}
 use Rattle.instruction.specs.declared.Decoded.the-variants as D
 use Rattle.instruction.specs.declared.Encoded.{Encoded}
 use Rattle.instruction.specs.declared.Encoded.the-variants as E
-use Rattle.host.specs.Answer.{answerBytes}
+use Rattle.layout.specs.Answer.{answerBytes}
 
 -- the opcode's number and the registers at bits 7, 11 and 15, a byte each
 abbrev pub packedOf : Parts → ℕ
