@@ -9,7 +9,7 @@ use Rattle.execute.specs.World.{World, world, worldOf, Stepped, stepped}
 use Rattle.run.specs.Pending.{Lists, lists}
 use Rattle.run.specs.Run.{Answer, answer}
 use Rattle.execute.specs.declared.Check.the-variants.{Unneeded}
-use Rattle.host.specs.Layout.{stateIn}
+use Rattle.layout.specs.Layout.{stateIn}
 use Rattle.host.specs.Call.{Called}
 
 -- each register's value; one that has no mark is whole

@@ -20,7 +20,7 @@ use Rattle.run.specs.Step.{Rules, step}
 use Rattle.run.specs.Run.{run}
 use Rattle.run.proofs.run_plain
 use Rattle.run.proofs.run_deferred
-use Rattle.host.specs.Layout.{stateIn}
+use Rattle.layout.specs.Layout.{stateIn}
 use Rattle.host.specs.Call.{taken, callOf}
 use Rattle.host.proofs.zkir_run
 use Rattle.agreement.specs.Reading.{readWorld, unchecked, readStep, readAnswer, readCall, noLists, Sized}

@@ -13,7 +13,7 @@ use Rattle.words.specs.declared.Decoded.{Decoded}
 use Rattle.words.specs.declared.Decoded.the-variants as D
 use Rattle.words.specs.declared.Encoded.{Encoded}
 use Rattle.words.specs.declared.Encoded.the-variants as E
-use Rattle.host.specs.Answer.{answerBytes}
+use Rattle.layout.specs.Answer.{answerBytes}
 
 -- the opcode's number and the registers at bits 7, 11 and 15, a byte each
 abbrev pub packedOf : Parts → ℕ

@@ -11,8 +11,8 @@ use Rattle.normalize.specs.declared.NormalizationResult.{NormalizationResult}
 use Rattle.normalize.specs.declared.Normalized.{Normalized}
 use Rattle.normalize.specs.declared.Normalizing.{Normalizing}
 use Rattle.normalize.specs.declared.Normalizing.the-variants.{Unneeded, Done, Refused}
-use Rattle.host.specs.Layout.{STATE_BYTES, stateBytes, written}
-use Rattle.host.specs.Answer.{ANSWER_BYTES, answerBytes}
+use Rattle.layout.specs.Layout.{STATE_BYTES, stateBytes, written}
+use Rattle.layout.specs.Answer.{ANSWER_BYTES, answerBytes}
 
 -- 0 `normalize_register`, 1 `normalize_if_near_overflow`, any other `normalize_and_write`, which alone looks at the limbs given
 unfoldable pub normalizedBy : ℕ → State → ℕ → ℕ → ℕ → Normalized

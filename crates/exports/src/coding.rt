@@ -1,17 +1,17 @@
 // Decoder and encoder of instructions: `words`.
-use host::answer::write_answer;
+use words::Decoded;
+use words::Encoded;
 use instruction::Instruction;
 use instruction::Parts;
+use layout::answer::write_answer;
 use opcode::Found;
 use refusal::number;
 use refusal::particular;
-use words::Decoded;
-use words::Encoded;
 ghost use mathlib.Core.Path.{_≡_};
 ghost use Rattle.opcode.specs.Opcodes.{opcodeNumber, opcodeIn};
 ghost use Rattle.words.specs.Words.{decodeIn, encodeIn};
-ghost use Rattle.host.specs.Layout.{written};
-ghost use Rattle.host.specs.Answer.{ANSWER_BYTES};
+ghost use Rattle.layout.specs.Layout.{written};
+ghost use Rattle.layout.specs.Answer.{ANSWER_BYTES};
 ghost use Rattle.exports.specs.Coding.{packedOf, decodedBytes, encodedNumber, givenOf};
 
 fn packed(p: Parts) -> u64

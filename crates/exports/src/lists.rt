@@ -1,5 +1,5 @@
 // Pending checks, in three lent lists: `run::pending`.
-use host::answer::write_answer;
+use layout::answer::write_answer;
 use refusal::number;
 use refusal::particular;
 use run::pending;
@@ -7,8 +7,8 @@ use run::pending::Appended;
 use run::pending::Entry;
 ghost use mathlib.Core.Path.{_≡_};
 ghost use Rattle.run.specs.Pending.{lists, appendAnswer, appendLists, emptied, entryAt};
-ghost use Rattle.host.specs.Layout.{written};
-ghost use Rattle.host.specs.Answer.{ANSWER_BYTES};
+ghost use Rattle.layout.specs.Layout.{written};
+ghost use Rattle.layout.specs.Answer.{ANSWER_BYTES};
 ghost use Rattle.exports.specs.Lists.{appendedBytes, entryIn};
 
 fn answer_with(answer: &mut [u8], a: Appended)

@@ -15,7 +15,7 @@ use Rattle.run.specs.Pending.{Lists}
 use Rattle.run.specs.Step.{Left, left, documentRules, step}
 use Rattle.run.specs.declared.OneStep.{OneStep}
 use Rattle.run.proofs.Loops.{step-malformed}
-use Rattle.checks.specs.Machine.{steppedOver}
+use Rattle.checked.specs.Machine.{steppedOver}
 use Rattle.checks.specs.declared.Pending.{Pending}
 use Rattle.lent.specs.Lent.{Stepped, lentLeft, laid, served, after, shut, readied, concluded, stepLent}
 use Rattle.lent.specs.declared.exported.Lent.{Lent}

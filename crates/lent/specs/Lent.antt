@@ -15,7 +15,7 @@ use Rattle.run.specs.Pending.{Lists}
 use Rattle.run.specs.Step.{Left, left, documentRules, step}
 use Rattle.run.specs.Run.{stopOf}
 use Rattle.run.specs.declared.OneStep.{OneStep}
-use Rattle.host.specs.Layout.{markOf, table}
+use Rattle.layout.specs.Layout.{markOf, table}
 use Rattle.host.specs.Call.{modeOf, stateOf}
 use Rattle.lent.specs.declared.exported.Lent.{Lent}
 use Rattle.lent.specs.declared.exported.Answer.{Answer}

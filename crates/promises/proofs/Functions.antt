@@ -15,6 +15,7 @@ use Rattle.normalize.proofs as normalize
 use Rattle.effect.proofs as effect
 use Rattle.execute.proofs as execute
 use Rattle.run.proofs as run
+use Rattle.layout.proofs as layout
 use Rattle.host.proofs as host
 use Rattle.exports.proofs as exports
 use Rattle.state.specs.Registers.{Registers}
@@ -376,22 +377,23 @@ run·stop-of κs a x y = one (λ r. r & x .1)
 pub run·leg·advance : Determined run.leg.advance.ended run.leg.advance.Reads.Learnt
 run·leg·advance κs a x y = one (λ (l : Leg). goneOf l & tt & tt & tt & tt & l .world .memory & tt)
 
+-- ---- layout
+pub layout·answer·write-answer : Determined layout.answer.write_answer.ended layout.answer.write_answer.Reads.Learnt
+layout·answer·write-answer κs a x y = one (λ m. tt & m & x .1 .1)
+
+pub layout·writing·write-state : Determined layout.writing.write_state.ended layout.writing.write_state.Reads.Learnt
+layout·writing·write-state κs a x y = one (λ m. tt & m & x .1 .1)
+
+pub layout·reading·read-state : Determined layout.reading.read_state.ended layout.reading.read_state.Reads.Learnt
+layout·reading·read-state κs a x y = one (λ r. r & x .1)
+
+pub layout·laid·well-laid : Determined layout.laid.well_laid.ended layout.laid.well_laid.Reads.Learnt
+layout·laid·well-laid κs a x y = one (λ r. r & x .1)
+
+pub layout·laid·is-admissible : Determined layout.laid.is_admissible.ended layout.laid.is_admissible.Reads.Learnt
+layout·laid·is-admissible κs a x y = one (λ r. r & x .1)
+
 -- ---- host
-pub host·answer·write-answer : Determined host.answer.write_answer.ended host.answer.write_answer.Reads.Learnt
-host·answer·write-answer κs a x y = one (λ m. tt & m & x .1 .1)
-
-pub host·layout·write-state : Determined host.layout.write_state.ended host.layout.write_state.Reads.Learnt
-host·layout·write-state κs a x y = one (λ m. tt & m & x .1 .1)
-
-pub host·layout·read-state : Determined host.layout.read_state.ended host.layout.read_state.Reads.Learnt
-host·layout·read-state κs a x y = one (λ r. r & x .1)
-
-pub host·layout·well-laid : Determined host.layout.well_laid.ended host.layout.well_laid.Reads.Learnt
-host·layout·well-laid κs a x y = one (λ r. r & x .1)
-
-pub host·layout·is-admissible : Determined host.layout.is_admissible.ended host.layout.is_admissible.Reads.Learnt
-host·layout·is-admissible κs a x y = one (λ r. r & x .1)
-
 pub host·zkir-run : Determined host.zkir_run.ended host.zkir_run.Reads.Learnt
 host·zkir-run κs a x y = one (λ (c : Called). c .code & c .state & c .memory & c .answer & x .1 .1 .1 .1)
 

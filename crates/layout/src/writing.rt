@@ -1,0 +1,105 @@
+// The bytes of a state, written.
+use crate::HEADER_BYTES;
+use crate::LIMB_LIMIT;
+use crate::RECORD_BYTES;
+use crate::STATE_BYTES;
+use memory::bytes::put_number;
+use state::State;
+ghost use mathlib.Core.Path.{_≡_};
+ghost use mathlib.Core.List.{_++_};
+ghost use Prim.Native.Nat.{_+_, _<_, _≤_};
+ghost use mathlib.Core.Bool.{false};
+ghost use lib.ListN.{length, getD};
+ghost use lib.Seq.{sets};
+ghost use Rattle.memory.specs.Bytes.{bytes};
+ghost use Rattle.state.specs.Held.{heldOf};
+ghost use Rattle.state.specs.Formed.{registersOf};
+ghost use Rattle.layout.specs.Layout.{HEADER_BYTES, RECORD_BYTES, STATE_BYTES, markOf, recordBytes, records, stateBytes, written};
+ghost use Rattle.layout.specs.Numbers.{numbersOf};
+
+// A register's record as three numbers: kind, bound and six zeros are the first.
+struct Record {
+    head: u64,
+    first: u64,
+    second: u64,
+}
+
+fn mark_of(halted: bool) -> u64
+    ensures { λ r. ⌜ r ≡ markOf halted ⌝ }
+{
+    if halted { 1 } else { 0 }
+}
+
+fn record_of(waits: bool, v: u64, bound: u8) -> Record
+    ensures { λ r. ⌜ numbersOf r ≡ recordBytes (heldOf waits v) bound ⌝ }
+{
+    let noted = 256 * bound as u64;
+    if waits {
+        return Record {
+            head: noted + 1,
+            first: v % LIMB_LIMIT,
+            second: v / LIMB_LIMIT,
+        };
+    }
+    Record {
+        head: noted,
+        first: v,
+        second: 0,
+    }
+}
+
+fn record_in(s: State, i: usize) -> Record
+    requires { ⌜ i < 16 ⌝ }
+    ensures { λ r. ⌜ numbersOf r ≡ recordBytes (heldOf (getD (s .accumulated) i false) (getD (s .regs) i 0)) (getD (s .bounds) i 0) ⌝ }
+{
+    let regs = s.regs;
+    let accumulated = s.accumulated;
+    let bounds = s.bounds;
+    record_of(accumulated[i], regs[i], bounds[i])
+}
+
+// The mark and its zeros are one number too.
+fn put_header(into: &mut [u8], pc: u64, mark: u64)
+    ensures { λ _. ⌜ now (into .exit) ≡ sets (now (into .entry)) 0 (bytes 8 pc ++ bytes 8 mark) ⌝ }
+{
+    put_number(into, 0, 8, pc);
+    put_number(into, 8, 8, mark);
+}
+
+pub(crate) fn put_three(into: &mut [u8], at: usize, a: u64, b: u64, c: u64)
+    requires { ⌜ at + RECORD_BYTES ≤ length (now into) ⌝ }
+    ensures { λ _. ⌜ now (into .exit) ≡ sets (now (into .entry)) at (bytes 8 a ++ (bytes 8 b ++ bytes 8 c)) ⌝ }
+{
+    put_number(into, at, 8, a);
+    put_number(into, at + 8, 8, b);
+    put_number(into, at + 16, 8, c);
+}
+
+fn put_records(bytes: &mut [u8], s: State)
+    requires { ⌜ length (now bytes) ≡ STATE_BYTES ⌝ }
+    ensures { λ _. ⌜ now (bytes .exit) ≡ sets (now (bytes .entry)) HEADER_BYTES (records 16 0 (registersOf s)) ⌝ }
+{
+    let mut i: usize = 0;
+    while i < 16 {
+        let r = record_in(s, i);
+        put_three(
+            bytes,
+            HEADER_BYTES + RECORD_BYTES * i,
+            r.head,
+            r.first,
+            r.second,
+        );
+        i += 1;
+    }
+}
+
+// Bytes of another length aren't written.
+pub fn write_state(bytes: &mut [u8], s: State)
+    ensures { λ _. ⌜ now (bytes .exit) ≡ written STATE_BYTES (stateBytes s) (now (bytes .entry)) ⌝ }
+{
+    if bytes.len() != STATE_BYTES {
+        return;
+    }
+    put_header(bytes, s.pc, mark_of(s.halted));
+    put_records(bytes, s);
+}
