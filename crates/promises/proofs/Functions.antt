@@ -17,6 +17,7 @@ use Rattle.execute.proofs as execute
 use Rattle.run.proofs as run
 use Rattle.layout.proofs as layout
 use Rattle.host.proofs as host
+use Rattle.singles.proofs as singles
 use Rattle.exports.proofs as exports
 use Rattle.state.specs.Registers.{Registers}
 use Rattle.execute.specs.World.{Stepped}
@@ -397,46 +398,176 @@ layout·laid·is-admissible κs a x y = one (λ r. r & x .1)
 pub host·zkir-run : Determined host.zkir_run.ended host.zkir_run.Reads.Learnt
 host·zkir-run κs a x y = one (λ (c : Called). c .code & c .state & c .memory & c .answer & x .1 .1 .1 .1)
 
+-- ---- singles
+pub singles·bounds·oracle-bound-from-constant : Determined singles.bounds.oracle_bound_from_constant.ended singles.bounds.oracle_bound_from_constant.Reads.Learnt
+singles·bounds·oracle-bound-from-constant κs a x y = one (λ r. r & x .1)
+
+pub singles·bounds·oracle-bound-after-add : Determined singles.bounds.oracle_bound_after_add.ended singles.bounds.oracle_bound_after_add.Reads.Learnt
+singles·bounds·oracle-bound-after-add κs a x y = one (λ r. r & x .1)
+
+pub singles·bounds·oracle-bound-after-sub : Determined singles.bounds.oracle_bound_after_sub.ended singles.bounds.oracle_bound_after_sub.Reads.Learnt
+singles·bounds·oracle-bound-after-sub κs a x y = one (λ r. r & x .1)
+
+pub singles·bounds·oracle-bound-after-mul : Determined singles.bounds.oracle_bound_after_mul.ended singles.bounds.oracle_bound_after_mul.Reads.Learnt
+singles·bounds·oracle-bound-after-mul κs a x y = one (λ r. r & x .1)
+
+pub singles·bounds·oracle-bound-after-and : Determined singles.bounds.oracle_bound_after_and.ended singles.bounds.oracle_bound_after_and.Reads.Learnt
+singles·bounds·oracle-bound-after-and κs a x y = one (λ r. r & x .1)
+
+pub singles·bounds·oracle-bound-after-move : Determined singles.bounds.oracle_bound_after_move.ended singles.bounds.oracle_bound_after_move.Reads.Learnt
+singles·bounds·oracle-bound-after-move κs a x y = one (λ r. r & x .1)
+
+pub singles·bounds·oracle-bound-after-div : Determined singles.bounds.oracle_bound_after_div.ended singles.bounds.oracle_bound_after_div.Reads.Learnt
+singles·bounds·oracle-bound-after-div κs a x y = one (λ r. r & x .1)
+
+pub singles·bounds·oracle-bound-after-shl : Determined singles.bounds.oracle_bound_after_shl.ended singles.bounds.oracle_bound_after_shl.Reads.Learnt
+singles·bounds·oracle-bound-after-shl κs a x y = one (λ r. r & x .1)
+
+pub singles·bounds·oracle-bound-after-srl : Determined singles.bounds.oracle_bound_after_srl.ended singles.bounds.oracle_bound_after_srl.Reads.Learnt
+singles·bounds·oracle-bound-after-srl κs a x y = one (λ r. r & x .1)
+
+pub singles·bounds·oracle-bound-after-sra : Determined singles.bounds.oracle_bound_after_sra.ended singles.bounds.oracle_bound_after_sra.Reads.Learnt
+singles·bounds·oracle-bound-after-sra κs a x y = one (λ r. r & x .1)
+
+pub singles·bounds·oracle-bound-after-cmp : Determined singles.bounds.oracle_bound_after_cmp.ended singles.bounds.oracle_bound_after_cmp.Reads.Learnt
+singles·bounds·oracle-bound-after-cmp κs a x y = one (λ r. r & x .1)
+
+pub singles·bounds·oracle-bound-after-load : Determined singles.bounds.oracle_bound_after_load.ended singles.bounds.oracle_bound_after_load.Reads.Learnt
+singles·bounds·oracle-bound-after-load κs a x y = one (λ r. r & x .1)
+
+pub singles·bounds·oracle-bound-needs-check : Determined singles.bounds.oracle_bound_needs_check.ended singles.bounds.oracle_bound_needs_check.Reads.Learnt
+singles·bounds·oracle-bound-needs-check κs a x y = one (λ r. r & x .1)
+
+pub singles·values·oracle-value-add : Determined singles.values.oracle_value_add.ended singles.values.oracle_value_add.Reads.Learnt
+singles·values·oracle-value-add κs a x y = one (λ r. r & x .1)
+
+pub singles·values·oracle-value-sub : Determined singles.values.oracle_value_sub.ended singles.values.oracle_value_sub.Reads.Learnt
+singles·values·oracle-value-sub κs a x y = one (λ r. r & x .1)
+
+pub singles·values·oracle-value-mul : Determined singles.values.oracle_value_mul.ended singles.values.oracle_value_mul.Reads.Learnt
+singles·values·oracle-value-mul κs a x y = one (λ r. r & x .1)
+
+pub singles·values·oracle-value-and : Determined singles.values.oracle_value_and.ended singles.values.oracle_value_and.Reads.Learnt
+singles·values·oracle-value-and κs a x y = one (λ r. r & x .1)
+
+pub singles·values·oracle-value-or : Determined singles.values.oracle_value_or.ended singles.values.oracle_value_or.Reads.Learnt
+singles·values·oracle-value-or κs a x y = one (λ r. r & x .1)
+
+pub singles·values·oracle-value-xor : Determined singles.values.oracle_value_xor.ended singles.values.oracle_value_xor.Reads.Learnt
+singles·values·oracle-value-xor κs a x y = one (λ r. r & x .1)
+
+pub singles·values·oracle-value-shl : Determined singles.values.oracle_value_shl.ended singles.values.oracle_value_shl.Reads.Learnt
+singles·values·oracle-value-shl κs a x y = one (λ r. r & x .1)
+
+pub singles·values·oracle-value-shr : Determined singles.values.oracle_value_shr.ended singles.values.oracle_value_shr.Reads.Learnt
+singles·values·oracle-value-shr κs a x y = one (λ r. r & x .1)
+
+pub singles·values·oracle-value-sra : Determined singles.values.oracle_value_sra.ended singles.values.oracle_value_sra.Reads.Learnt
+singles·values·oracle-value-sra κs a x y = one (λ r. r & x .1)
+
+pub singles·values·oracle-value-slt : Determined singles.values.oracle_value_slt.ended singles.values.oracle_value_slt.Reads.Learnt
+singles·values·oracle-value-slt κs a x y = one (λ r. r & x .1)
+
+pub singles·values·oracle-value-ult : Determined singles.values.oracle_value_ult.ended singles.values.oracle_value_ult.Reads.Learnt
+singles·values·oracle-value-ult κs a x y = one (λ r. r & x .1)
+
+pub singles·values·oracle-value-mulh : Determined singles.values.oracle_value_mulh.ended singles.values.oracle_value_mulh.Reads.Learnt
+singles·values·oracle-value-mulh κs a x y = one (λ r. r & x .1)
+
+pub singles·values·oracle-value-div : Determined singles.values.oracle_value_div.ended singles.values.oracle_value_div.Reads.Learnt
+singles·values·oracle-value-div κs a x y = one (λ r. r & x .1)
+
+pub singles·values·oracle-value-rem : Determined singles.values.oracle_value_rem.ended singles.values.oracle_value_rem.Reads.Learnt
+singles·values·oracle-value-rem κs a x y = one (λ r. r & x .1)
+
+pub singles·values·oracle-value-divu : Determined singles.values.oracle_value_divu.ended singles.values.oracle_value_divu.Reads.Learnt
+singles·values·oracle-value-divu κs a x y = one (λ r. r & x .1)
+
+pub singles·values·oracle-value-remu : Determined singles.values.oracle_value_remu.ended singles.values.oracle_value_remu.Reads.Learnt
+singles·values·oracle-value-remu κs a x y = one (λ r. r & x .1)
+
+pub singles·values·oracle-value-extend-8 : Determined singles.values.oracle_value_extend_8.ended singles.values.oracle_value_extend_8.Reads.Learnt
+singles·values·oracle-value-extend-8 κs a x y = one (λ r. r & x .1)
+
+pub singles·values·oracle-value-extend-16 : Determined singles.values.oracle_value_extend_16.ended singles.values.oracle_value_extend_16.Reads.Learnt
+singles·values·oracle-value-extend-16 κs a x y = one (λ r. r & x .1)
+
+pub singles·values·oracle-value-extend-17 : Determined singles.values.oracle_value_extend_17.ended singles.values.oracle_value_extend_17.Reads.Learnt
+singles·values·oracle-value-extend-17 κs a x y = one (λ r. r & x .1)
+
+pub singles·values·oracle-value-extend-21 : Determined singles.values.oracle_value_extend_21.ended singles.values.oracle_value_extend_21.Reads.Learnt
+singles·values·oracle-value-extend-21 κs a x y = one (λ r. r & x .1)
+
+pub singles·values·oracle-value-plus : Determined singles.values.oracle_value_plus.ended singles.values.oracle_value_plus.Reads.Learnt
+singles·values·oracle-value-plus κs a x y = one (λ r. r & x .1)
+
+pub singles·words·oracle-extract-opcode : Determined singles.words.oracle_extract_opcode.ended singles.words.oracle_extract_opcode.Reads.Learnt
+singles·words·oracle-extract-opcode κs a x y = one (λ r. r & x .1)
+
+pub singles·words·oracle-extract-rd : Determined singles.words.oracle_extract_rd.ended singles.words.oracle_extract_rd.Reads.Learnt
+singles·words·oracle-extract-rd κs a x y = one (λ r. r & x .1)
+
+pub singles·words·oracle-extract-rs1 : Determined singles.words.oracle_extract_rs1.ended singles.words.oracle_extract_rs1.Reads.Learnt
+singles·words·oracle-extract-rs1 κs a x y = one (λ r. r & x .1)
+
+pub singles·words·oracle-extract-rs2 : Determined singles.words.oracle_extract_rs2.ended singles.words.oracle_extract_rs2.Reads.Learnt
+singles·words·oracle-extract-rs2 κs a x y = one (λ r. r & x .1)
+
+pub singles·words·oracle-extract-funct : Determined singles.words.oracle_extract_funct.ended singles.words.oracle_extract_funct.Reads.Learnt
+singles·words·oracle-extract-funct κs a x y = one (λ r. r & x .1)
+
+pub singles·words·oracle-extract-imm : Determined singles.words.oracle_extract_imm.ended singles.words.oracle_extract_imm.Reads.Learnt
+singles·words·oracle-extract-imm κs a x y = one (λ r. r & x .1)
+
+pub singles·words·oracle-extract-offset : Determined singles.words.oracle_extract_offset.ended singles.words.oracle_extract_offset.Reads.Learnt
+singles·words·oracle-extract-offset κs a x y = one (λ r. r & x .1)
+
+pub singles·words·oracle-extract-stype-rs1 : Determined singles.words.oracle_extract_stype_rs1.ended singles.words.oracle_extract_stype_rs1.Reads.Learnt
+singles·words·oracle-extract-stype-rs1 κs a x y = one (λ r. r & x .1)
+
+pub singles·words·oracle-extract-stype-rs2 : Determined singles.words.oracle_extract_stype_rs2.ended singles.words.oracle_extract_stype_rs2.Reads.Learnt
+singles·words·oracle-extract-stype-rs2 κs a x y = one (λ r. r & x .1)
+
+pub singles·words·oracle-extract-stype-imm : Determined singles.words.oracle_extract_stype_imm.ended singles.words.oracle_extract_stype_imm.Reads.Learnt
+singles·words·oracle-extract-stype-imm κs a x y = one (λ r. r & x .1)
+
+pub singles·words·oracle-extract-imm-signed : Determined singles.words.oracle_extract_imm_signed.ended singles.words.oracle_extract_imm_signed.Reads.Learnt
+singles·words·oracle-extract-imm-signed κs a x y = one (λ r. r & x .1)
+
+pub singles·words·oracle-extract-offset-signed : Determined singles.words.oracle_extract_offset_signed.ended singles.words.oracle_extract_offset_signed.Reads.Learnt
+singles·words·oracle-extract-offset-signed κs a x y = one (λ r. r & x .1)
+
+pub singles·words·oracle-is-rtype : Determined singles.words.oracle_is_rtype.ended singles.words.oracle_is_rtype.Reads.Learnt
+singles·words·oracle-is-rtype κs a x y = one (λ r. r & x .1)
+
+pub singles·words·oracle-is-itype : Determined singles.words.oracle_is_itype.ended singles.words.oracle_is_itype.Reads.Learnt
+singles·words·oracle-is-itype κs a x y = one (λ r. r & x .1)
+
+pub singles·words·oracle-is-stype : Determined singles.words.oracle_is_stype.ended singles.words.oracle_is_stype.Reads.Learnt
+singles·words·oracle-is-stype κs a x y = one (λ r. r & x .1)
+
+pub singles·words·oracle-is-btype : Determined singles.words.oracle_is_btype.ended singles.words.oracle_is_btype.Reads.Learnt
+singles·words·oracle-is-btype κs a x y = one (λ r. r & x .1)
+
+pub singles·words·oracle-is-jtype : Determined singles.words.oracle_is_jtype.ended singles.words.oracle_is_jtype.Reads.Learnt
+singles·words·oracle-is-jtype κs a x y = one (λ r. r & x .1)
+
+pub singles·words·oracle-encode-rtype : Determined singles.words.oracle_encode_rtype.ended singles.words.oracle_encode_rtype.Reads.Learnt
+singles·words·oracle-encode-rtype κs a x y = one (λ r. r & x .1)
+
+pub singles·words·oracle-encode-itype : Determined singles.words.oracle_encode_itype.ended singles.words.oracle_encode_itype.Reads.Learnt
+singles·words·oracle-encode-itype κs a x y = one (λ r. r & x .1)
+
+pub singles·words·oracle-encode-stype : Determined singles.words.oracle_encode_stype.ended singles.words.oracle_encode_stype.Reads.Learnt
+singles·words·oracle-encode-stype κs a x y = one (λ r. r & x .1)
+
+pub singles·words·oracle-encode-btype : Determined singles.words.oracle_encode_btype.ended singles.words.oracle_encode_btype.Reads.Learnt
+singles·words·oracle-encode-btype κs a x y = one (λ r. r & x .1)
+
+pub singles·words·oracle-encode-jtype : Determined singles.words.oracle_encode_jtype.ended singles.words.oracle_encode_jtype.Reads.Learnt
+singles·words·oracle-encode-jtype κs a x y = one (λ r. r & x .1)
+
 -- ---- exports
-pub exports·bounds·oracle-bound-from-constant : Determined exports.bounds.oracle_bound_from_constant.ended exports.bounds.oracle_bound_from_constant.Reads.Learnt
-exports·bounds·oracle-bound-from-constant κs a x y = one (λ r. r & x .1)
-
-pub exports·bounds·oracle-bound-after-add : Determined exports.bounds.oracle_bound_after_add.ended exports.bounds.oracle_bound_after_add.Reads.Learnt
-exports·bounds·oracle-bound-after-add κs a x y = one (λ r. r & x .1)
-
-pub exports·bounds·oracle-bound-after-sub : Determined exports.bounds.oracle_bound_after_sub.ended exports.bounds.oracle_bound_after_sub.Reads.Learnt
-exports·bounds·oracle-bound-after-sub κs a x y = one (λ r. r & x .1)
-
-pub exports·bounds·oracle-bound-after-mul : Determined exports.bounds.oracle_bound_after_mul.ended exports.bounds.oracle_bound_after_mul.Reads.Learnt
-exports·bounds·oracle-bound-after-mul κs a x y = one (λ r. r & x .1)
-
-pub exports·bounds·oracle-bound-after-and : Determined exports.bounds.oracle_bound_after_and.ended exports.bounds.oracle_bound_after_and.Reads.Learnt
-exports·bounds·oracle-bound-after-and κs a x y = one (λ r. r & x .1)
-
-pub exports·bounds·oracle-bound-after-move : Determined exports.bounds.oracle_bound_after_move.ended exports.bounds.oracle_bound_after_move.Reads.Learnt
-exports·bounds·oracle-bound-after-move κs a x y = one (λ r. r & x .1)
-
-pub exports·bounds·oracle-bound-after-div : Determined exports.bounds.oracle_bound_after_div.ended exports.bounds.oracle_bound_after_div.Reads.Learnt
-exports·bounds·oracle-bound-after-div κs a x y = one (λ r. r & x .1)
-
-pub exports·bounds·oracle-bound-after-shl : Determined exports.bounds.oracle_bound_after_shl.ended exports.bounds.oracle_bound_after_shl.Reads.Learnt
-exports·bounds·oracle-bound-after-shl κs a x y = one (λ r. r & x .1)
-
-pub exports·bounds·oracle-bound-after-srl : Determined exports.bounds.oracle_bound_after_srl.ended exports.bounds.oracle_bound_after_srl.Reads.Learnt
-exports·bounds·oracle-bound-after-srl κs a x y = one (λ r. r & x .1)
-
-pub exports·bounds·oracle-bound-after-sra : Determined exports.bounds.oracle_bound_after_sra.ended exports.bounds.oracle_bound_after_sra.Reads.Learnt
-exports·bounds·oracle-bound-after-sra κs a x y = one (λ r. r & x .1)
-
-pub exports·bounds·oracle-bound-after-cmp : Determined exports.bounds.oracle_bound_after_cmp.ended exports.bounds.oracle_bound_after_cmp.Reads.Learnt
-exports·bounds·oracle-bound-after-cmp κs a x y = one (λ r. r & x .1)
-
-pub exports·bounds·oracle-bound-after-load : Determined exports.bounds.oracle_bound_after_load.ended exports.bounds.oracle_bound_after_load.Reads.Learnt
-exports·bounds·oracle-bound-after-load κs a x y = one (λ r. r & x .1)
-
-pub exports·bounds·oracle-bound-needs-check : Determined exports.bounds.oracle_bound_needs_check.ended exports.bounds.oracle_bound_needs_check.Reads.Learnt
-exports·bounds·oracle-bound-needs-check κs a x y = one (λ r. r & x .1)
-
 pub exports·coding·oracle-decode : Determined exports.coding.oracle_decode.ended exports.coding.oracle_decode.Reads.Learnt
 exports·coding·oracle-decode κs a x y = one (λ m. tt & m & x .1 .1)
 
@@ -466,132 +597,3 @@ exports·machine·oracle-step κs a x y = one (λ (l : MachineLeft). l .lists .c
 
 pub exports·machine·oracle-run : Determined exports.machine.oracle_run.ended exports.machine.oracle_run.Reads.Learnt
 exports·machine·oracle-run κs a x y = one (λ (l : MachineLeft). l .lists .count & l .state & l .memory & l .answer & l .lists .values & l .lists .bounds & l .lists .pcs & x .1 .1 .1 .1 .1 .1 .1)
-
-pub exports·values·oracle-value-add : Determined exports.values.oracle_value_add.ended exports.values.oracle_value_add.Reads.Learnt
-exports·values·oracle-value-add κs a x y = one (λ r. r & x .1)
-
-pub exports·values·oracle-value-sub : Determined exports.values.oracle_value_sub.ended exports.values.oracle_value_sub.Reads.Learnt
-exports·values·oracle-value-sub κs a x y = one (λ r. r & x .1)
-
-pub exports·values·oracle-value-mul : Determined exports.values.oracle_value_mul.ended exports.values.oracle_value_mul.Reads.Learnt
-exports·values·oracle-value-mul κs a x y = one (λ r. r & x .1)
-
-pub exports·values·oracle-value-and : Determined exports.values.oracle_value_and.ended exports.values.oracle_value_and.Reads.Learnt
-exports·values·oracle-value-and κs a x y = one (λ r. r & x .1)
-
-pub exports·values·oracle-value-or : Determined exports.values.oracle_value_or.ended exports.values.oracle_value_or.Reads.Learnt
-exports·values·oracle-value-or κs a x y = one (λ r. r & x .1)
-
-pub exports·values·oracle-value-xor : Determined exports.values.oracle_value_xor.ended exports.values.oracle_value_xor.Reads.Learnt
-exports·values·oracle-value-xor κs a x y = one (λ r. r & x .1)
-
-pub exports·values·oracle-value-shl : Determined exports.values.oracle_value_shl.ended exports.values.oracle_value_shl.Reads.Learnt
-exports·values·oracle-value-shl κs a x y = one (λ r. r & x .1)
-
-pub exports·values·oracle-value-shr : Determined exports.values.oracle_value_shr.ended exports.values.oracle_value_shr.Reads.Learnt
-exports·values·oracle-value-shr κs a x y = one (λ r. r & x .1)
-
-pub exports·values·oracle-value-sra : Determined exports.values.oracle_value_sra.ended exports.values.oracle_value_sra.Reads.Learnt
-exports·values·oracle-value-sra κs a x y = one (λ r. r & x .1)
-
-pub exports·values·oracle-value-slt : Determined exports.values.oracle_value_slt.ended exports.values.oracle_value_slt.Reads.Learnt
-exports·values·oracle-value-slt κs a x y = one (λ r. r & x .1)
-
-pub exports·values·oracle-value-ult : Determined exports.values.oracle_value_ult.ended exports.values.oracle_value_ult.Reads.Learnt
-exports·values·oracle-value-ult κs a x y = one (λ r. r & x .1)
-
-pub exports·values·oracle-value-mulh : Determined exports.values.oracle_value_mulh.ended exports.values.oracle_value_mulh.Reads.Learnt
-exports·values·oracle-value-mulh κs a x y = one (λ r. r & x .1)
-
-pub exports·values·oracle-value-div : Determined exports.values.oracle_value_div.ended exports.values.oracle_value_div.Reads.Learnt
-exports·values·oracle-value-div κs a x y = one (λ r. r & x .1)
-
-pub exports·values·oracle-value-rem : Determined exports.values.oracle_value_rem.ended exports.values.oracle_value_rem.Reads.Learnt
-exports·values·oracle-value-rem κs a x y = one (λ r. r & x .1)
-
-pub exports·values·oracle-value-divu : Determined exports.values.oracle_value_divu.ended exports.values.oracle_value_divu.Reads.Learnt
-exports·values·oracle-value-divu κs a x y = one (λ r. r & x .1)
-
-pub exports·values·oracle-value-remu : Determined exports.values.oracle_value_remu.ended exports.values.oracle_value_remu.Reads.Learnt
-exports·values·oracle-value-remu κs a x y = one (λ r. r & x .1)
-
-pub exports·values·oracle-value-extend-8 : Determined exports.values.oracle_value_extend_8.ended exports.values.oracle_value_extend_8.Reads.Learnt
-exports·values·oracle-value-extend-8 κs a x y = one (λ r. r & x .1)
-
-pub exports·values·oracle-value-extend-16 : Determined exports.values.oracle_value_extend_16.ended exports.values.oracle_value_extend_16.Reads.Learnt
-exports·values·oracle-value-extend-16 κs a x y = one (λ r. r & x .1)
-
-pub exports·values·oracle-value-extend-17 : Determined exports.values.oracle_value_extend_17.ended exports.values.oracle_value_extend_17.Reads.Learnt
-exports·values·oracle-value-extend-17 κs a x y = one (λ r. r & x .1)
-
-pub exports·values·oracle-value-extend-21 : Determined exports.values.oracle_value_extend_21.ended exports.values.oracle_value_extend_21.Reads.Learnt
-exports·values·oracle-value-extend-21 κs a x y = one (λ r. r & x .1)
-
-pub exports·values·oracle-value-plus : Determined exports.values.oracle_value_plus.ended exports.values.oracle_value_plus.Reads.Learnt
-exports·values·oracle-value-plus κs a x y = one (λ r. r & x .1)
-
-pub exports·words·oracle-extract-opcode : Determined exports.words.oracle_extract_opcode.ended exports.words.oracle_extract_opcode.Reads.Learnt
-exports·words·oracle-extract-opcode κs a x y = one (λ r. r & x .1)
-
-pub exports·words·oracle-extract-rd : Determined exports.words.oracle_extract_rd.ended exports.words.oracle_extract_rd.Reads.Learnt
-exports·words·oracle-extract-rd κs a x y = one (λ r. r & x .1)
-
-pub exports·words·oracle-extract-rs1 : Determined exports.words.oracle_extract_rs1.ended exports.words.oracle_extract_rs1.Reads.Learnt
-exports·words·oracle-extract-rs1 κs a x y = one (λ r. r & x .1)
-
-pub exports·words·oracle-extract-rs2 : Determined exports.words.oracle_extract_rs2.ended exports.words.oracle_extract_rs2.Reads.Learnt
-exports·words·oracle-extract-rs2 κs a x y = one (λ r. r & x .1)
-
-pub exports·words·oracle-extract-funct : Determined exports.words.oracle_extract_funct.ended exports.words.oracle_extract_funct.Reads.Learnt
-exports·words·oracle-extract-funct κs a x y = one (λ r. r & x .1)
-
-pub exports·words·oracle-extract-imm : Determined exports.words.oracle_extract_imm.ended exports.words.oracle_extract_imm.Reads.Learnt
-exports·words·oracle-extract-imm κs a x y = one (λ r. r & x .1)
-
-pub exports·words·oracle-extract-offset : Determined exports.words.oracle_extract_offset.ended exports.words.oracle_extract_offset.Reads.Learnt
-exports·words·oracle-extract-offset κs a x y = one (λ r. r & x .1)
-
-pub exports·words·oracle-extract-stype-rs1 : Determined exports.words.oracle_extract_stype_rs1.ended exports.words.oracle_extract_stype_rs1.Reads.Learnt
-exports·words·oracle-extract-stype-rs1 κs a x y = one (λ r. r & x .1)
-
-pub exports·words·oracle-extract-stype-rs2 : Determined exports.words.oracle_extract_stype_rs2.ended exports.words.oracle_extract_stype_rs2.Reads.Learnt
-exports·words·oracle-extract-stype-rs2 κs a x y = one (λ r. r & x .1)
-
-pub exports·words·oracle-extract-stype-imm : Determined exports.words.oracle_extract_stype_imm.ended exports.words.oracle_extract_stype_imm.Reads.Learnt
-exports·words·oracle-extract-stype-imm κs a x y = one (λ r. r & x .1)
-
-pub exports·words·oracle-extract-imm-signed : Determined exports.words.oracle_extract_imm_signed.ended exports.words.oracle_extract_imm_signed.Reads.Learnt
-exports·words·oracle-extract-imm-signed κs a x y = one (λ r. r & x .1)
-
-pub exports·words·oracle-extract-offset-signed : Determined exports.words.oracle_extract_offset_signed.ended exports.words.oracle_extract_offset_signed.Reads.Learnt
-exports·words·oracle-extract-offset-signed κs a x y = one (λ r. r & x .1)
-
-pub exports·words·oracle-is-rtype : Determined exports.words.oracle_is_rtype.ended exports.words.oracle_is_rtype.Reads.Learnt
-exports·words·oracle-is-rtype κs a x y = one (λ r. r & x .1)
-
-pub exports·words·oracle-is-itype : Determined exports.words.oracle_is_itype.ended exports.words.oracle_is_itype.Reads.Learnt
-exports·words·oracle-is-itype κs a x y = one (λ r. r & x .1)
-
-pub exports·words·oracle-is-stype : Determined exports.words.oracle_is_stype.ended exports.words.oracle_is_stype.Reads.Learnt
-exports·words·oracle-is-stype κs a x y = one (λ r. r & x .1)
-
-pub exports·words·oracle-is-btype : Determined exports.words.oracle_is_btype.ended exports.words.oracle_is_btype.Reads.Learnt
-exports·words·oracle-is-btype κs a x y = one (λ r. r & x .1)
-
-pub exports·words·oracle-is-jtype : Determined exports.words.oracle_is_jtype.ended exports.words.oracle_is_jtype.Reads.Learnt
-exports·words·oracle-is-jtype κs a x y = one (λ r. r & x .1)
-
-pub exports·words·oracle-encode-rtype : Determined exports.words.oracle_encode_rtype.ended exports.words.oracle_encode_rtype.Reads.Learnt
-exports·words·oracle-encode-rtype κs a x y = one (λ r. r & x .1)
-
-pub exports·words·oracle-encode-itype : Determined exports.words.oracle_encode_itype.ended exports.words.oracle_encode_itype.Reads.Learnt
-exports·words·oracle-encode-itype κs a x y = one (λ r. r & x .1)
-
-pub exports·words·oracle-encode-stype : Determined exports.words.oracle_encode_stype.ended exports.words.oracle_encode_stype.Reads.Learnt
-exports·words·oracle-encode-stype κs a x y = one (λ r. r & x .1)
-
-pub exports·words·oracle-encode-btype : Determined exports.words.oracle_encode_btype.ended exports.words.oracle_encode_btype.Reads.Learnt
-exports·words·oracle-encode-btype κs a x y = one (λ r. r & x .1)
-
-pub exports·words·oracle-encode-jtype : Determined exports.words.oracle_encode_jtype.ended exports.words.oracle_encode_jtype.Reads.Learnt
-exports·words·oracle-encode-jtype κs a x y = one (λ r. r & x .1)
