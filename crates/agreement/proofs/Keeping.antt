@@ -18,8 +18,9 @@ use Rattle.words.specs.declared.Decoded.{Decoded}
 use Rattle.words.specs.declared.Decoded.the-variants as D
 use Rattle.instruction.specs.declared.Instruction.{Instruction}
 use Rattle.execute.specs.World.{World, Stepped, refused, does, done}
-use Rattle.execute.specs.Settle.{sources, normaliseEach, settle}
-use Rattle.execute.specs.Deferred.{sumInto, subtracted, limbsIn}
+use Rattle.deferred.specs.Limbs.{sumInto, subtracted}
+use Rattle.deferred.specs.Sources.{sources, normaliseEach}
+use Rattle.execute.specs.Modes.{limbsIn, settle}
 use Rattle.execute.specs.Execute.{onward, finish, execute, admits}
 use Rattle.execute.specs.declared.Mode.{Mode}
 use Rattle.execute.specs.declared.Mode.the-variants.{Plain, Deferred}

@@ -9,8 +9,8 @@ use Rattle.effect.specs.Operations.{plus64}
 use Rattle.effect.specs.Notes.{Notes}
 use Rattle.effect.specs.Effects.{seen, effect}
 use Rattle.execute.specs.World.{World, world, worldOf, Stepped, stepped, refused, done}
-use Rattle.execute.specs.Settle.{settle}
-use Rattle.execute.specs.Deferred.{Limbed, limbsIn}
+use Rattle.deferred.specs.Limbs.{Limbed}
+use Rattle.execute.specs.Modes.{limbsIn, settle}
 use Rattle.instruction.specs.declared.Instruction.{Instruction}
 use Rattle.words.specs.Words.{fitsOf}
 use Rattle.execute.specs.declared.Executed.{Executed}

@@ -4,30 +4,25 @@ use crate::Advance;
 use crate::Check;
 use crate::Mode;
 use crate::Went;
-use crate::deferred;
+use deferred::sources;
 use effect::Effect;
 use effect::Goes;
 use effect::Outcome;
 use effect::Stores;
 use instruction::Parts;
-use opcode::Form;
-use opcode::Opcode;
 use refusal::Refusal;
 use state::registers;
 ghost use mathlib.Core.Path.{_≡_};
-ghost use mathlib.Core.Bool.{cond, _&&_};
-ghost use lib.Dec.{eqb};
+ghost use mathlib.Core.Bool.{_&&_};
 ghost use Rattle.state.specs.Registers.{registers, Becomes};
 ghost use Rattle.effect.specs.Notes.{documentNotes};
 ghost use Rattle.effect.specs.Operations.{plus64};
-ghost use Rattle.execute.specs.World.{world, advanced, wentOf, marked, keeping, checkOf, does};
-ghost use Rattle.opcode.specs.Opcodes.{opcodeNumber};
+ghost use Rattle.effect.specs.declared.Outcome.the-variants.{Does};
+ghost use Rattle.execute.specs.World.{world, advanced, wentOf, marked, keeping, checkOf, does, done};
 ghost use Rattle.instruction.specs.Operands.{joinedOf};
-ghost use Rattle.instruction.specs.declared.Instruction.the-variants.{Ecall};
-ghost use Rattle.execute.specs.Settle.{settle};
+ghost use Rattle.deferred.specs.Limbs.{limbed};
+ghost use Rattle.execute.specs.Modes.{limbsIn, settle};
 ghost use Rattle.execute.specs.Execute.{wholly, execute};
-ghost use Rattle.execute.specs.Deferred.{limbed, limbsIn};
-ghost use Rattle.execute.specs.declared.Mode.the-variants.{Deferred};
 ghost use Rattle.execute.specs.declared.Went.the-variants as W;
 ghost use Rattle.execute.specs.declared.Check.the-variants.{Unneeded};
 
@@ -97,37 +92,12 @@ fn apply(
     }
 }
 
-// Ecall has the number 49.
-fn settle_alone(op: Opcode, regs: &mut [u64; 16], accumulated: &mut [bool; 16])
-    ensures { λ _. ⌜ Becomes (λ R. cond (eqb (opcodeNumber op) 49) (settle Deferred Ecall R) R) (now (regs .entry)) (now (accumulated .entry)) (now (regs .exit)) (now (accumulated .exit)) ⌝ }
-{
-    if opcode::number(op) == 49 {
-        registers::normalise_all(regs, accumulated);
-    }
-}
-
-// The sources stand where the form has them.
-fn settle_sources(p: Parts, regs: &mut [u64; 16], accumulated: &mut [bool; 16])
-    ensures { λ _. ⌜ Becomes (settle Deferred (joinedOf p)) (now (regs .entry)) (now (accumulated .entry)) (now (regs .exit)) (now (accumulated .exit)) ⌝ }
-{
-    let op = p.op;
-    match forms::form_of(op) {
-        Form::R => deferred::normalise_two(regs, accumulated, p.b, p.c),
-        Form::I => registers::normalise(regs, accumulated, p.b),
-        Form::Shift => registers::normalise(regs, accumulated, p.b),
-        Form::S => deferred::normalise_two(regs, accumulated, p.a, p.b),
-        Form::B => deferred::normalise_two(regs, accumulated, p.a, p.b),
-        Form::J => (),
-        Form::Alone => settle_alone(op, regs, accumulated),
-    }
-}
-
 fn settle(mode: Mode, p: Parts, regs: &mut [u64; 16], accumulated: &mut [bool; 16])
     ensures { λ _. ⌜ Becomes (settle mode (joinedOf p)) (now (regs .entry)) (now (accumulated .entry)) (now (regs .exit)) (now (accumulated .exit)) ⌝ }
 {
     match mode {
         Mode::Plain => (),
-        Mode::Deferred => settle_sources(p, regs, accumulated),
+        Mode::Deferred => sources::settle(p, regs, accumulated),
     }
 }
 
@@ -151,6 +121,28 @@ fn refuse(r: Refusal, pc: u64, halted: bool) -> Advance
     }
 }
 
+// A check that is needed and has no room is refused, before anything changes.
+fn carry_out(
+    mode: Mode,
+    full: bool,
+    e: Effect,
+    p: Parts,
+    pc: u64,
+    halted: bool,
+    regs: &mut [u64; 16],
+    accumulated: &mut [bool; 16],
+    bounds: &mut [u8; 16],
+    m: &mut [u8],
+) -> Advance
+    ensures { λ r. ⌜ advanced r (registers (now (regs .exit)) (now (accumulated .exit)) (now (bounds .exit))) (now (m .exit)) ≡ done full (Does e) (world pc halted (registers (now (regs .entry)) (now (accumulated .entry)) (now (bounds .entry))) (now (m .entry))) (settle mode (joinedOf p) (registers (now (regs .entry)) (now (accumulated .entry)) (now (bounds .entry)))) ⌝ }
+{
+    if both(full, e.checked) {
+        return refuse(Refusal::ListFull { pc }, pc, halted);
+    }
+    settle(mode, p, regs, accumulated);
+    apply(e, halted, regs, accumulated, bounds, m)
+}
+
 // The instruction on whole values. It is decided on the registers as they are, since normalising changes no value; and so a refusal
 // changes nothing.
 fn wholly(
@@ -169,11 +161,7 @@ fn wholly(
     let outcome = effect::effect_of_parts(p, pc, regs, accumulated, bounds, m);
     match outcome {
         Outcome::Does(e) => {
-            if both(full, e.checked) {
-                return refuse(Refusal::ListFull { pc }, pc, halted);
-            }
-            settle(mode, p, regs, accumulated);
-            apply(e, halted, regs, accumulated, bounds, m)
+            carry_out(mode, full, e, p, pc, halted, regs, accumulated, bounds, m)
         }
         Outcome::Refuses(r) => refuse(r, pc, halted),
     }

@@ -17,8 +17,7 @@ use Rattle.normalize.specs.Normalizing.{normalizeAndWrite}
 use Rattle.effect.specs.Operations.{divided, result}
 use Rattle.effect.specs.Effects.{seen, dividing, effect}
 use Rattle.execute.specs.World.{done}
-use Rattle.execute.specs.Settle.{settle}
-use Rattle.execute.specs.Deferred.{limbsIn}
+use Rattle.execute.specs.Modes.{limbsIn, settle}
 use Rattle.execute.specs.Execute.{finish, execute, admits, executeOne}
 use Rattle.promises.specs.Corners.{Corner, number, integer, All, paper}
 

@@ -13,6 +13,7 @@ use Rattle.words.proofs as words
 use Rattle.state.proofs as state
 use Rattle.normalize.proofs as normalize
 use Rattle.effect.proofs as effect
+use Rattle.deferred.proofs as deferred
 use Rattle.execute.proofs as execute
 use Rattle.run.proofs as run
 use Rattle.layout.proofs as layout
@@ -20,6 +21,7 @@ use Rattle.host.proofs as host
 use Rattle.singles.proofs as singles
 use Rattle.exports.proofs as exports
 use Rattle.state.specs.Registers.{Registers}
+use Rattle.deferred.specs.Limbs.{Limbed}
 use Rattle.execute.specs.World.{Stepped}
 use Rattle.run.specs.Pending.{Lists}
 use Rattle.run.specs.Step.{Left}
@@ -339,6 +341,13 @@ effect·effect-of κs a x y = one (λ r. r & x .1)
 
 pub effect·effect-of-parts : Determined effect.effect_of_parts.ended effect.effect_of_parts.Reads.Learnt
 effect·effect-of-parts κs a x y = one (λ r. r & x .1)
+
+-- ---- deferred
+pub deferred·sources·settle : Determined deferred.sources.settle.ended deferred.sources.settle.Reads.Learnt
+deferred·sources·settle κs a x y = λ p q. one (λ (R : Registers). tt & tt & R .values & R .accumulated & tt) (p []) (q [])
+
+pub deferred·limbs : Determined deferred.limbs.ended deferred.limbs.Reads.Learnt
+deferred·limbs κs a x y = one (λ (l : Limbed). l .waits & tt & l .registers .values & l .registers .accumulated & l .registers .bounds & tt)
 
 -- ---- execute
 pub execute·lent·execute : Determined execute.lent.execute.ended execute.lent.execute.Reads.Learnt

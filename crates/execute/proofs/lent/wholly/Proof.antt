@@ -1,4 +1,4 @@
-use Rattle.execute.proofs.Finish.{wholly-does, wholly-full, wholly-refuses}
+use Rattle.execute.proofs.Finish.{wholly-does, wholly-refuses}
 use mathlib.Core.Path.{sym, _∙_}
 use borrow.Author.Needs.{needs}
 use Rattle.execute.proofs.lent.wholly.Statement.{statement}
@@ -10,8 +10,11 @@ effect-of-parts-requires c κs = search needs
 enum-known-outcome : tie.Need-enum-known-outcome
 enum-known-outcome c = search needs
 
-both-requires : tie.Need-both-requires
-both-requires c κs = search needs
+carry-out-requires : tie.Need-carry-out-requires
+carry-out-requires c κs = search needs
+
+enum-known-outcome-2 : tie.Need-enum-known-outcome-2
+enum-known-outcome-2 c = search needs
 
 refuse-requires : tie.Need-refuse-requires
 refuse-requires c κs = search needs
@@ -20,31 +23,13 @@ same-length : tie.Need-same-length
 same-length c = search needs
 
 returns : tie.Need-returns
-returns c = rw (c .refuse .ensures) (wholly-full (c .before .before .before .before .before .before .before .before .before .before .before .before .args .mode) _ _ _ _ _ (sym (c .before .before .before .before .before .before .effect-of-parts .ensures) ∙ c .before .before .before .before .outcome .given .1) (sym (c .before .before .both .ensures) ∙ c .before .if1 .taken))
-
-settle-requires : tie.Need-settle-requires
-settle-requires c κs = search needs
-
-apply-requires : tie.Need-apply-requires
-apply-requires c κs = search needs
-
-enum-known-outcome-2 : tie.Need-enum-known-outcome-2
-enum-known-outcome-2 c = search needs
-
-refuse-requires-2 : tie.Need-refuse-requires-2
-refuse-requires-2 c κs = search needs
+returns c = c .before .before .carry-out .ensures ∙ wholly-does (c .before .before .before .before .before .before .before .before .before .before .before .before .before .before .before .before .args .mode) _ _ _ _ _ (sym (c .before .before .before .before .before .before .before .before .before .before .effect-of-parts .ensures) ∙ c .before .before .before .before .before .before .before .before .outcome .given .1)
 
 same-length-2 : tie.Need-same-length-2
 same-length-2 c = search needs
 
 returns-2 : tie.Need-returns-2
-returns-2 c = c .before .before .apply .ensures ∙ wholly-does (c .before .before .before .before .before .before .before .before .before .before .before .before .before .before .before .before .before .before .before .before .before .args .mode) _ _ _ _ _ _ (sym (c .before .before .before .before .before .before .before .before .before .before .before .before .before .before .before .effect-of-parts .ensures) ∙ c .before .before .before .before .before .before .before .before .before .before .before .before .before .outcome .given .1) (sym (c .before .before .before .before .before .before .before .before .before .before .before .both .ensures) ∙ c .before .before .before .before .before .before .before .before .before .before .if1 .left) (c .before .before .before .before .before .before .before .settle .ensures _)
-
-same-length-3 : tie.Need-same-length-3
-same-length-3 c = search needs
-
-returns-3 : tie.Need-returns-3
-returns-3 c = rw (c .refuse2 .ensures) (wholly-refuses (c .before .before .before .before .before .before .before .before .before .before .args .mode) _ _ _ _ _ (sym (c .before .before .before .before .effect-of-parts .ensures) ∙ c .before .before .outcome2 .given .1))
+returns-2 c = rw (c .refuse .ensures) (wholly-refuses (c .before .before .before .before .before .before .before .before .before .before .args .mode) _ _ _ _ _ (sym (c .before .before .before .before .effect-of-parts .ensures) ∙ c .before .before .outcome2 .given .1))
 
 pub wholly-spec : {M : Type 1} → statement M
 wholly-spec =
@@ -52,15 +37,10 @@ wholly-spec =
     (tie.spec
     effect-of-parts-requires
     enum-known-outcome
-    both-requires
+    carry-out-requires
+    enum-known-outcome-2
     refuse-requires
     same-length
     returns
-    settle-requires
-    apply-requires
-    enum-known-outcome-2
-    refuse-requires-2
     same-length-2
-    returns-2
-    same-length-3
-    returns-3)
+    returns-2)
