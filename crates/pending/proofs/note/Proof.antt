@@ -1,8 +1,8 @@
-use Rattle.run.proofs.Lists.{no-place, a-place}
+use Rattle.pending.proofs.Lists.{no-place, a-place}
 use native.Mathlib.Omega.{arith}
 use borrow.Author.Needs.{needs}
-use Rattle.run.proofs.pending.note.Statement.{statement}
-use Rattle.run.proofs.pending.note.Tie as tie
+use Rattle.pending.proofs.note.Statement.{statement}
+use Rattle.pending.proofs.note.Tie as tie
 
 returns : tie.Need-returns
 returns c = no-place _ _ _ _ (omega arith)

@@ -1,7 +1,7 @@
-use Rattle.run.specs.Pending.{listing}
+use Rattle.pending.specs.Pending.{listing}
 use borrow.Author.Needs.{needs}
-use Rattle.run.proofs.pending.list.Statement.{statement}
-use Rattle.run.proofs.pending.list.Tie as tie
+use Rattle.pending.proofs.list.Statement.{statement}
+use Rattle.pending.proofs.list.Tie as tie
 
 enum-told : tie.Need-enum-told
 enum-told c = search needs

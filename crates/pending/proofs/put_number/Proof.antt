@@ -2,8 +2,8 @@ use native.Mathlib.Omega.{arith}
 use lib.Seq.{set-out}
 use mathlib.Core.Path.{sym}
 use borrow.Author.Needs.{needs}
-use Rattle.run.proofs.pending.put_number.Statement.{statement}
-use Rattle.run.proofs.pending.put_number.Tie as tie
+use Rattle.pending.proofs.put_number.Statement.{statement}
+use Rattle.pending.proofs.put_number.Tie as tie
 
 mul-list : tie.Need-mul-list
 mul-list c = search needs

@@ -5,7 +5,7 @@ ghost use mathlib.Core.Path.{_≡_};
 ghost use mathlib.Core.Bool.{_&&_};
 ghost use lib.Dec.{eqb, leb};
 ghost use lib.ListN.{set};
-ghost use Rattle.run.specs.Pending.{lists, fullAt, appended, listing, appendAnswer, appendLists, emptied, entryAt};
+ghost use Rattle.pending.specs.Pending.{lists, fullAt, appended, listing, appendAnswer, appendLists, emptied, entryAt};
 
 pub enum Appended {
     At(usize),
@@ -18,14 +18,14 @@ pub enum Entry {
 }
 
 // Whether the lists are of one length, and the count within it.
-pub(crate) fn lists_fit(values: usize, widths: usize, pcs: usize, count: usize) -> bool
+pub fn lists_fit(values: usize, widths: usize, pcs: usize, count: usize) -> bool
     ensures { λ r. ⌜ r ≡ (eqb widths values && eqb pcs values && leb count values) ⌝ }
 {
     (widths == values) & (pcs == values) & (count <= values)
 }
 
 // Whether a list is lent and has no room.
-pub(crate) fn full_at(room: usize, count: usize) -> bool
+pub fn full_at(room: usize, count: usize) -> bool
     ensures { λ r. ⌜ r ≡ fullAt room count ⌝ }
 {
     (room != 0) & (room <= count)
@@ -69,7 +69,7 @@ fn note(
 }
 
 // The check that a step asks for.
-pub(crate) fn list(
+pub fn list(
     values: &mut [u64],
     widths: &mut [u8],
     pcs: &mut [u64],

@@ -2,8 +2,8 @@ use native.Mathlib.Omega.{arith}
 use lib.Seq.{set-out}
 use mathlib.Core.Path.{sym}
 use borrow.Author.Needs.{needs}
-use Rattle.run.proofs.pending.put_width.Statement.{statement}
-use Rattle.run.proofs.pending.put_width.Tie as tie
+use Rattle.pending.proofs.put_width.Statement.{statement}
+use Rattle.pending.proofs.put_width.Tie as tie
 
 slice-write-list : tie.Need-slice-write-list
 slice-write-list c = search needs

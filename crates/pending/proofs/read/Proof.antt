@@ -1,12 +1,12 @@
-use Rattle.run.specs.Pending.{lists}
+use Rattle.pending.specs.Pending.{lists}
 use denote.Ref.{now}
-use Rattle.run.proofs.Lists.{entry-malformed, entry-beyond, entry-there, fits-mean}
+use Rattle.pending.proofs.Lists.{entry-malformed, entry-beyond, entry-there, fits-mean}
 use borrow.Author.Tests.{not-true, not-false}
 use native.Mathlib.Omega.{arith}
 use mathlib.Core.Path.{sym, _∙_}
 use borrow.Author.Needs.{needs}
-use Rattle.run.proofs.pending.read.Statement.{statement}
-use Rattle.run.proofs.pending.read.Tie as tie
+use Rattle.pending.proofs.read.Statement.{statement}
+use Rattle.pending.proofs.read.Tie as tie
 
 lists-fit-requires : tie.Need-lists-fit-requires
 lists-fit-requires c κs = search needs

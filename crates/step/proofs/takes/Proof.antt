@@ -1,8 +1,8 @@
 use borrow.Author.Tests.{not-true, not-false}
 use mathlib.Core.Path.{sym, _∙_}
 use borrow.Author.Needs.{needs}
-use Rattle.run.proofs.takes.Statement.{statement}
-use Rattle.run.proofs.takes.Tie as tie
+use Rattle.step.proofs.takes.Statement.{statement}
+use Rattle.step.proofs.takes.Tie as tie
 
 admits-requires : tie.Need-admits-requires
 admits-requires c κs = search needs

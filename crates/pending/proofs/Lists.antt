@@ -7,9 +7,9 @@ use native.Mathlib.Omega.{arith}
 use lib.Dec.{leb, eqb}
 use borrow.Author.Tests.{lt-ltb, le-ltb, eqb-true, leb-true}
 use Rattle.refusal.specs.Stops.{refusalOf}
-use Rattle.run.specs.Pending.{Lists, lists, listsFit, fullAt, full, appended, appendAnswer, appendLists, entryAt}
-use Rattle.run.specs.declared.pending.Appended.the-variants as A
-use Rattle.run.specs.declared.pending.Entry.the-variants as E
+use Rattle.pending.specs.Pending.{Lists, lists, listsFit, fullAt, full, appended, appendAnswer, appendLists, entryAt}
+use Rattle.pending.specs.declared.Appended.the-variants as A
+use Rattle.pending.specs.declared.Entry.the-variants as E
 
 no-room : (room count : ℕ) → fullAt room count ≡ true → room ≤ count
 no-room room count e = told (eqb room 0) e

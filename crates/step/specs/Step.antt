@@ -17,8 +17,8 @@ use Rattle.execute.specs.Execute.{execute, admits}
 use Rattle.execute.specs.declared.Mode.{Mode}
 use Rattle.execute.specs.declared.Went.{Went}
 use Rattle.execute.specs.declared.Went.the-variants as W
-use Rattle.run.specs.Pending.{Lists, lists, listsFit, full, listing}
-use Rattle.run.specs.declared.OneStep.{OneStep}
+use Rattle.pending.specs.Pending.{Lists, lists, listsFit, full, listing}
+use Rattle.step.specs.declared.OneStep.{OneStep}
 
 -- the choices of a run: the numbers of the opcodes, and the notes of bounds
 pub record Rules : Type 0 where
@@ -32,6 +32,10 @@ documentRules = record { number = opcodeNumber; notes = documentNotes }
 unfoldable pub obey : Mode → Bool → Rules → Decoded → World → Stepped
 obey k full R (D.Instruction i) w = execute k full (R .notes) i w
 obey k full R (D.Refused r) w = refused r w
+
+unfoldable pub decodedAt : Rules → Fetched → Decoded
+decodedAt R (F.Word x) = decodeIn (R .number) x
+decodedAt R (F.Refused r) = D.Refused r
 
 unfoldable pub fetched : Mode → Bool → Rules → Fetched → World → Stepped
 fetched k full R (F.Word x) w = obey k full R (decodeIn (R .number) x) w

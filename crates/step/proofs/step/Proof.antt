@@ -1,9 +1,9 @@
-use Rattle.run.proofs.Loops.{one-step, step-malformed, step-taken}
+use Rattle.step.proofs.Steps.{one-step, step-malformed, step-taken}
 use borrow.Author.Tests.{not-true, not-false}
 use mathlib.Core.Path.{sym, _∙_}
 use borrow.Author.Needs.{needs}
-use Rattle.run.proofs.step.Statement.{statement}
-use Rattle.run.proofs.step.Tie as tie
+use Rattle.step.proofs.step.Statement.{statement}
+use Rattle.step.proofs.step.Tie as tie
 
 takes-requires : tie.Need-takes-requires
 takes-requires c κs = search needs

@@ -1,11 +1,11 @@
-use Rattle.run.specs.declared.pending.Appended.the-variants.{At}
-use Rattle.run.proofs.Lists.{append-malformed, append-full, append-done}
-use Rattle.run.specs.Pending.{Lists}
+use Rattle.pending.specs.declared.Appended.the-variants.{At}
+use Rattle.pending.proofs.Lists.{append-malformed, append-full, append-done}
+use Rattle.pending.specs.Pending.{Lists}
 use borrow.Author.Tests.{not-true, not-false}
 use mathlib.Core.Path.{sym, _∙_, ap}
 use borrow.Author.Needs.{needs}
-use Rattle.run.proofs.pending.append.Statement.{statement}
-use Rattle.run.proofs.pending.append.Tie as tie
+use Rattle.pending.proofs.append.Statement.{statement}
+use Rattle.pending.proofs.append.Tie as tie
 
 lists-fit-requires : tie.Need-lists-fit-requires
 lists-fit-requires c κs = search needs

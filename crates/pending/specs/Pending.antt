@@ -7,10 +7,10 @@ use lib.Dec.{ltb, leb, eqb}
 use Rattle.refusal.specs.Stops.{refusalOf}
 use Rattle.execute.specs.declared.Check.{Check}
 use Rattle.execute.specs.declared.Check.the-variants.{Unneeded, Needed}
-use Rattle.run.specs.declared.pending.Appended.{Appended}
-use Rattle.run.specs.declared.pending.Appended.the-variants as A
-use Rattle.run.specs.declared.pending.Entry.{Entry}
-use Rattle.run.specs.declared.pending.Entry.the-variants as E
+use Rattle.pending.specs.declared.Appended.{Appended}
+use Rattle.pending.specs.declared.Appended.the-variants as A
+use Rattle.pending.specs.declared.Entry.{Entry}
+use Rattle.pending.specs.declared.Entry.the-variants as E
 
 pub record Lists : Type 0 where
   pub count : ℕ

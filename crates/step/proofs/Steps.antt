@@ -1,0 +1,35 @@
+-- A step's laws: its parts put together, and the entry from the test that the code makes.
+use mathlib.Core.Path.{_≡_, refl}
+use mathlib.Core.Bool.{Bool, true, false, _&&_}
+use Rattle.refusal.specs.Stops.{refusalOf}
+use Rattle.memory.specs.declared.Fetched.{Fetched}
+use Rattle.memory.specs.declared.Fetched.the-variants as F
+use Rattle.execute.specs.World.{World, stepped}
+use Rattle.execute.specs.Execute.{admits}
+use Rattle.execute.specs.declared.Mode.{Mode}
+use Rattle.execute.specs.declared.Went.{Went}
+use Rattle.execute.specs.declared.Went.the-variants as W
+use Rattle.execute.specs.declared.Check.{Check}
+use Rattle.pending.specs.Pending.{Lists, listsFit, full, listing}
+use Rattle.step.specs.Step.{Rules, obey, decodedAt, fetched, left, stepIn, stepOf, step}
+
+-- what is fetched, decoded first and obeyed then
+pub obeys : (k : Mode) (full : Bool) (R : Rules) (f : Fetched) (w : World) → obey k full R (decodedAt R f) w ≡ fetched k full R f w
+unfolding obey decodedAt fetched
+obeys k full R (F.Word x) w = refl
+obeys k full R (F.Refused r) w = refl
+
+-- a step and the listing of its check
+pub one-step : (k : Mode) (R : Rules) (w v : World) (l t : Lists) (g : Went) (c : Check)
+    → stepped g v c ≡ stepIn k (full l) R w → t ≡ listing c (w .pc) l → left g v t ≡ stepOf k R w l
+unfolding stepOf
+one-step k R w v l t g c e f = rw (f, ← e)
+
+module _ (k : Mode) (R : Rules) (w : World) (l : Lists) where
+  pub step-malformed : (admits k (w .registers) && listsFit l) ≡ false → left (W.Refused (refusalOf 9 0)) w l ≡ step k R w l
+  unfolding step
+  step-malformed e = rw e
+
+  pub step-taken : (admits k (w .registers) && listsFit l) ≡ true → stepOf k R w l ≡ step k R w l
+  unfolding step
+  step-taken e = rw e
