@@ -17,8 +17,6 @@ ghost use Rattle.state.specs.Formed.{registersOf};
 ghost use Rattle.instruction.specs.Words.{decodedOf};
 ghost use Rattle.execute.specs.World.{world, worldOf, advanced};
 ghost use Rattle.execute.specs.Execute.{admits};
-ghost use Rattle.execute.specs.declared.Went.the-variants as W;
-ghost use Rattle.execute.specs.declared.Check.the-variants.{Unneeded};
 ghost use Rattle.pending.specs.Pending.{lists};
 ghost use Rattle.step.specs.Step.{documentRules, decodedAt, stepIn, step, stepped};
 
@@ -26,17 +24,6 @@ pub struct OneStep {
     pub went: Went,
     pub count: usize,
     pub state: State,
-}
-
-fn refuse(r: Refusal, pc: u64, halted: bool) -> Advance
-    ensures { λ a. ⌜ a ≡ record { went = W.Refused r; pc = pc; halted = halted; check = Unneeded } ⌝ }
-{
-    Advance {
-        went: Went::Refused(r),
-        pc,
-        halted,
-        check: Check::Unneeded,
-    }
 }
 
 // The word at the pc, taken apart.
@@ -64,7 +51,12 @@ pub fn step_in(
 {
     match take_at(m, pc) {
         Taken::Apart(p) => lent::execute(mode, full, p, pc, halted, regs, accumulated, bounds, m),
-        Taken::Refused(r) => refuse(r, pc, halted),
+        Taken::Refused(r) => Advance {
+            went: Went::Refused(r),
+            pc,
+            halted,
+            check: Check::Unneeded,
+        },
     }
 }
 

@@ -16,9 +16,6 @@ execute-requires c κs = search needs
 enum-known-r : tie.Need-enum-known-r
 enum-known-r c = search needs
 
-refuse-requires : tie.Need-refuse-requires
-refuse-requires c κs = search needs
-
 same-length : tie.Need-same-length
 same-length c = search needs
 
@@ -29,7 +26,7 @@ same-length-2 : tie.Need-same-length-2
 same-length-2 c = search needs
 
 returns-2 : tie.Need-returns-2
-returns-2 c = rw (c .refuse .ensures) (refused-done _ _ _ _ _ _ (c .before .before .before .before .take-at .ensures) _ (c .before .before .r .given .1))
+returns-2 c = refused-done _ _ _ _ _ _ (c .before .before .before .take-at .ensures) _ (c .before .r .given .1)
 
 pub step-in-spec : {M : Type 1} → statement M
 step-in-spec =
@@ -39,7 +36,6 @@ step-in-spec =
     enum-known-p
     execute-requires
     enum-known-r
-    refuse-requires
     same-length
     returns
     same-length-2
