@@ -1,21 +1,20 @@
 use Rattle.instruction.specs.Words.{decodedOf}
 use Rattle.step.specs.Step.{decodedAt}
 use mathlib.Core.Path.{sym, _∙_}
-use borrow.Author.Needs.{needs}
 use Rattle.step.proofs.take_at.Statement.{statement}
 use Rattle.step.proofs.take_at.Tie as tie
 
 fetch-requires : tie.Need-fetch-requires
-fetch-requires c κs = search needs
+fetch-requires c κs = tt
 
 enum-known-word : tie.Need-enum-known-word
-enum-known-word c = search needs
+enum-known-word c = c .match .keys1
 
 take-requires : tie.Need-take-requires
-take-requires c κs = search needs
+take-requires c κs = tt
 
 enum-known-r : tie.Need-enum-known-r
-enum-known-r c = search needs
+enum-known-r c = c .match .keys2
 
 returns : tie.Need-returns
 unfolding decodedAt
