@@ -1,7 +1,8 @@
-use Rattle.run.proofs.Loops.{one-step, goes-on, stops, runs-out, starts}
+use Rattle.step.proofs.Steps.{one-step}
+use Rattle.run.proofs.Loops.{goes-on, stops, runs-out, starts}
 use Rattle.run.specs.Run.{after, loop}
-use Rattle.run.specs.Step.{documentRules}
-use Rattle.run.specs.Pending.{lists}
+use Rattle.step.specs.Step.{documentRules}
+use Rattle.pending.specs.Pending.{lists}
 use Rattle.execute.specs.World.{world}
 use Rattle.state.specs.Registers.{registers}
 use lib.ListN.{length}

@@ -6,7 +6,7 @@ use Prim.Native.Nat.{_≤_, _-_}
 use lib.ListN.{length}
 use Rattle.state.specs.Registers.{registers}
 use Rattle.execute.specs.World.{world}
-use Rattle.run.specs.Step.{documentRules}
+use Rattle.step.specs.Step.{documentRules}
 use Rattle.run.specs.Leg.{later, legIn}
 use Rattle.run.proofs.Legs.{passes-on, ends, runs-dry, begins}
 use Rattle.run.proofs.leg.advance.Statement.{statement}
