@@ -14,6 +14,13 @@ use Rattle.pending.specs.Pending.{Lists, listsFit}
 use Rattle.step.specs.Step.{Rules, left, stepOf}
 use Rattle.run.specs.Run.{answer, after, goesOn, stopOf, counted, following, loop, run}
 
+-- a step of a loop that may go on
+pub one-more : (fuel n : ℕ) → n < fuel → n + 1 ≤ fuel
+one-more fuel n h = omega arith
+
+pub less-left : (fuel n : ℕ) → n < fuel → fuel - (n + 1) < fuel - n
+less-left fuel n h = omega arith
+
 steps-eq : {p : Stop} {w : World} {l : Lists} (a b : ℕ) → a ≡ b → answer p a w l ≡ answer p b w l
 steps-eq a b e = rw e
 

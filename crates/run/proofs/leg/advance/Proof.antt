@@ -7,6 +7,7 @@ use Rattle.state.specs.Registers.{registers}
 use Rattle.execute.specs.World.{world}
 use Rattle.step.specs.Step.{documentRules}
 use Rattle.run.specs.Leg.{later, legIn}
+use Rattle.run.proofs.Loops.{one-more, less-left}
 use Rattle.run.proofs.Legs.{passes-on, ends, runs-dry, begins}
 use Rattle.run.proofs.leg.advance.Statement.{statement}
 use Rattle.run.proofs.leg.advance.Tie as tie
@@ -46,10 +47,10 @@ add-n : tie.Need-add-n Inv-loop μ-loop
 add-n c = omega (arith, c .before .before .before .before .before .before .before .before .before .loop-test .taken, c .before .before .before .before .before .before .before .before .before .before .before .before .before .before .before .fits .fuel)
 
 loop-less : tie.Need-loop-less Inv-loop μ-loop
-loop-less c = omega arith
+loop-less c = less-left _ _ (c .before .before .before .before .before .before .before .before .before .loop-test .taken)
 
 loop-again : tie.Need-loop-again Inv-loop μ-loop
-loop-again c = (c .before .before .before .m .given ∙ c .before .before .before .before .before .before .before .before .before .before .loop .inv .0, omega arith, sym (passes-on _ _ _ (c .before .before .before .before .before .before .before .before .before .before .before .before .before .before .before .args .fuel) (c .before .before .before .before .before .before .before .before .before .before .loop .n) _ _ _ _ (c .before .before .before .before .before .before .before .before .before .loop-test .taken) (c .before .before .before .before .step-in .ensures) (sym (c .before .passes .ensures) ∙ not-false _ (c .if1 .left))) ∙ c .before .before .before .before .before .before .before .before .before .before .loop .inv .2)
+loop-again c = (c .before .before .before .m .given ∙ c .before .before .before .before .before .before .before .before .before .before .loop .inv .0, one-more _ _ (c .before .before .before .before .before .before .before .before .before .loop-test .taken), sym (passes-on _ _ _ (c .before .before .before .before .before .before .before .before .before .before .before .before .before .before .before .args .fuel) (c .before .before .before .before .before .before .before .before .before .before .loop .n) _ _ _ _ (c .before .before .before .before .before .before .before .before .before .loop-test .taken) (c .before .before .before .before .step-in .ensures) (sym (c .before .passes .ensures) ∙ not-false _ (c .if1 .left))) ∙ c .before .before .before .before .before .before .before .before .before .before .loop .inv .2)
 
 same-length-2 : tie.Need-same-length-2 Inv-loop μ-loop
 same-length-2 c = c .before .loop .inv .0
