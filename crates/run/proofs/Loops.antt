@@ -3,6 +3,9 @@ use Prim.Native.Nat.{ℕ, suc, _+_, _-_, _<_, _≤_}
 use mathlib.Core.Path.{_≡_}
 use mathlib.Core.Bool.{true, false, _&&_}
 use native.Mathlib.Omega.{arith}
+use mir.Syntax.{w64}
+use mir.Val.{Fits}
+use mir.Facts.{fits-le}
 use Rattle.refusal.specs.Stops.{refusalOf}
 use Rattle.refusal.specs.declared.Stop.{Stop}
 use Rattle.refusal.specs.declared.Stop.the-variants as S
@@ -20,6 +23,9 @@ one-more fuel n h = omega arith
 
 pub less-left : (fuel n : ℕ) → n < fuel → fuel - (n + 1) < fuel - n
 less-left fuel n h = omega arith
+
+pub steps-fit : (fuel n s : ℕ) → n < fuel → s ≤ 1 → Fits w64 fuel → Fits w64 (n + s)
+steps-fit fuel n s h i fits = fits-le (omega arith) fits
 
 steps-eq : {p : Stop} {w : World} {l : Lists} (a b : ℕ) → a ≡ b → answer p a w l ≡ answer p b w l
 steps-eq a b e = rw e

@@ -1,5 +1,5 @@
 use Rattle.step.proofs.Steps.{one-step}
-use Rattle.run.proofs.Loops.{one-more, less-left, goes-on, stops, runs-out, starts}
+use Rattle.run.proofs.Loops.{one-more, less-left, steps-fit, goes-on, stops, runs-out, starts}
 use Rattle.run.specs.Run.{after, loop}
 use Rattle.step.specs.Step.{documentRules}
 use Rattle.pending.specs.Pending.{lists}
@@ -7,6 +7,7 @@ use Rattle.execute.specs.World.{world}
 use Rattle.state.specs.Registers.{registers}
 use lib.ListN.{length}
 use Prim.Native.Nat.{_≤_, _-_}
+use native.Mathlib.Nat.{le-refl}
 use mathlib.Core.Path.{_≡_, refl, sym, _∙_}
 use native.Mathlib.Omega.{arith}
 use borrow.Author.Tests.{not-true, not-false}
@@ -42,7 +43,7 @@ counted-requires : tie.Need-counted-requires Inv-loop μ-loop
 counted-requires c κs = tt
 
 add-steps : tie.Need-add-steps Inv-loop μ-loop
-add-steps c = omega (arith, c .before .before .before .before .before .before .before .before .before .before .before .before .before .before .before .before .before .before .before .before .before .loop-test .taken, c .counted .ensures .1, c .before .before .before .before .before .before .before .before .before .before .before .before .before .before .before .before .before .before .before .before .before .before .before .before .before .before .before .before .before .before .fits .fuel)
+add-steps c = steps-fit _ _ _ (c .before .before .before .before .before .before .before .before .before .before .before .before .before .before .before .before .before .before .before .before .before .loop-test .taken) (c .counted .ensures .1) (c .before .before .before .before .before .before .before .before .before .before .before .before .before .before .before .before .before .before .before .before .before .before .before .before .before .before .before .before .before .before .fits .fuel)
 
 stop-of-requires : tie.Need-stop-of-requires Inv-loop μ-loop
 stop-of-requires c κs = tt
@@ -63,7 +64,7 @@ returns : tie.Need-returns Inv-loop μ-loop
 returns c = rw (c .stop-of .ensures, c .before .counted .ensures .0) (sym (sym (c .before .before .before .before .before .before .before .before .before .before .before .before .before .before .before .before .before .before .before .before .before .before .before .loop .inv .5) ∙ stops _ _ (c .before .before .before .before .before .before .before .before .before .before .before .before .before .before .before .before .before .before .before .before .before .before .before .before .before .before .before .before .before .before .before .args .fuel) (c .before .before .before .before .before .before .before .before .before .before .before .before .before .before .before .before .before .before .before .before .before .before .before .loop .n) _ _ _ _ _ (c .before .before .before .before .before .before .before .before .before .before .before .before .before .before .before .before .before .before .before .before .before .before .loop-test .taken) (one-step _ _ _ _ _ _ _ _ (rw (← c .before .before .before .before .before .before .before .before .before .before .before .before .before .before .before .before .before .before .before .before .before .full-at .ensures) (c .before .before .before .before .before .before .before .before .before .before .before .before .before .before .before .before .step-in .ensures)) (c .before .before .before .before .before .before .before .before .before .before .list .ensures)) (sym (c .before .before .before .goes-on .ensures) ∙ not-true _ (c .before .before .if1 .taken))))
 
 add-n : tie.Need-add-n Inv-loop μ-loop
-add-n c = omega (arith, c .before .before .before .before .before .before .before .before .before .before .before .before .before .before .before .before .before .before .before .before .loop-test .taken, c .before .before .before .before .before .before .before .before .before .before .before .before .before .before .before .before .before .before .before .before .before .before .before .before .before .before .before .before .before .fits .fuel)
+add-n c = steps-fit _ _ _ (c .before .before .before .before .before .before .before .before .before .before .before .before .before .before .before .before .before .before .before .before .loop-test .taken) (le-refl 1) (c .before .before .before .before .before .before .before .before .before .before .before .before .before .before .before .before .before .before .before .before .before .before .before .before .before .before .before .before .before .fits .fuel)
 
 loop-less : tie.Need-loop-less Inv-loop μ-loop
 loop-less c = less-left _ _ (c .before .before .before .before .before .before .before .before .before .before .before .before .before .before .before .before .before .before .before .before .loop-test .taken)

@@ -2,12 +2,13 @@ use borrow.Author.Tests.{not-true, not-false}
 use native.Mathlib.Omega.{arith}
 use mathlib.Core.Path.{_≡_, refl, sym, _∙_}
 use Prim.Native.Nat.{_≤_, _-_}
+use native.Mathlib.Nat.{le-refl}
 use lib.ListN.{length}
 use Rattle.state.specs.Registers.{registers}
 use Rattle.execute.specs.World.{world}
 use Rattle.step.specs.Step.{documentRules}
 use Rattle.run.specs.Leg.{later, legIn}
-use Rattle.run.proofs.Loops.{one-more, less-left}
+use Rattle.run.proofs.Loops.{one-more, less-left, steps-fit}
 use Rattle.run.proofs.Legs.{passes-on, ends, runs-dry, begins}
 use Rattle.run.proofs.leg.advance.Statement.{statement}
 use Rattle.run.proofs.leg.advance.Tie as tie
@@ -35,7 +36,7 @@ counted-requires : tie.Need-counted-requires Inv-loop μ-loop
 counted-requires c κs = tt
 
 add-steps : tie.Need-add-steps Inv-loop μ-loop
-add-steps c = omega (arith, c .before .before .before .before .before .before .before .before .before .before .loop-test .taken, c .counted .ensures .1, c .before .before .before .before .before .before .before .before .before .before .before .before .before .before .before .before .fits .fuel)
+add-steps c = steps-fit _ _ _ (c .before .before .before .before .before .before .before .before .before .before .loop-test .taken) (c .counted .ensures .1) (c .before .before .before .before .before .before .before .before .before .before .before .before .before .before .before .before .fits .fuel)
 
 same-length : tie.Need-same-length Inv-loop μ-loop
 same-length c = c .before .before .before .before .m .given ∙ c .before .before .before .before .before .before .before .before .before .before .before .loop .inv .0
@@ -44,7 +45,7 @@ returns : tie.Need-returns Inv-loop μ-loop
 returns c = rw (c .counted .ensures .0) (sym (sym (c .before .before .before .before .before .before .before .before .before .before .before .loop .inv .2) ∙ ends _ _ _ (c .before .before .before .before .before .before .before .before .before .before .before .before .before .before .before .before .args .fuel) (c .before .before .before .before .before .before .before .before .before .before .before .loop .n) _ _ _ _ (c .before .before .before .before .before .before .before .before .before .before .loop-test .taken) (c .before .before .before .before .before .step-in .ensures) (sym (c .before .before .passes .ensures) ∙ not-true _ (c .before .if1 .taken))))
 
 add-n : tie.Need-add-n Inv-loop μ-loop
-add-n c = omega (arith, c .before .before .before .before .before .before .before .before .before .loop-test .taken, c .before .before .before .before .before .before .before .before .before .before .before .before .before .before .before .fits .fuel)
+add-n c = steps-fit _ _ _ (c .before .before .before .before .before .before .before .before .before .loop-test .taken) (le-refl 1) (c .before .before .before .before .before .before .before .before .before .before .before .before .before .before .before .fits .fuel)
 
 loop-less : tie.Need-loop-less Inv-loop μ-loop
 loop-less c = less-left _ _ (c .before .before .before .before .before .before .before .before .before .loop-test .taken)
