@@ -4,12 +4,11 @@ use Rattle.pending.proofs.Lists.{entry-malformed, entry-beyond, entry-t
 use borrow.Author.Tests.{not-true, not-false}
 use native.Mathlib.Omega.{arith}
 use mathlib.Core.Path.{sym, _∙_}
-use borrow.Author.Needs.{needs}
 use Rattle.pending.proofs.read.Statement.{statement}
 use Rattle.pending.proofs.read.Tie as tie
 
 lists-fit-requires : tie.Need-lists-fit-requires
-lists-fit-requires c κs = search needs
+lists-fit-requires c κs = tt
 
 returns : tie.Need-returns
 returns c = entry-malformed _ _ (sym (c .before .lists-fit .ensures) ∙ not-true _ (c .if1 .taken))
