@@ -24,8 +24,8 @@ use Rattle.execute.specs.Modes.{limbsIn, settle}
 use Rattle.execute.specs.Execute.{onward, finish, execute, admits}
 use Rattle.execute.specs.declared.Mode.{Mode}
 use Rattle.execute.specs.declared.Mode.the-variants.{Plain, Deferred}
-use Rattle.run.specs.Pending.{Lists, listsFit}
-use Rattle.run.specs.Step.{Rules, obey, fetched, Left, left, stepOf, step}
+use Rattle.pending.specs.Pending.{Lists, listsFit}
+use Rattle.step.specs.Step.{Rules, obey, fetched, Left, left, stepOf, step}
 use Rattle.run.specs.Run.{Answer, answer, after, goesOn, following, loop, run}
 use Rattle.agreement.proofs.Cases.{cond-case, limb-cases}
 

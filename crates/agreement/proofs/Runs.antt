@@ -22,8 +22,8 @@ use Rattle.execute.specs.declared.Check.{Check}
 use Rattle.execute.specs.declared.Check.the-variants.{Unneeded, Needed}
 use Rattle.execute.specs.declared.Mode.{Mode}
 use Rattle.execute.specs.declared.Mode.the-variants.{Plain, Deferred}
-use Rattle.run.specs.Pending.{Lists, listsFit, listing, appended}
-use Rattle.run.specs.Step.{Rules, obey, fetched, Left, left, stepOf}
+use Rattle.pending.specs.Pending.{Lists, listsFit, listing, appended}
+use Rattle.step.specs.Step.{Rules, obey, fetched, Left, left, stepOf}
 use Rattle.run.specs.Run.{Answer, answer, after, goesOn, following, loop, run}
 use Rattle.agreement.specs.Reading.{noMarks, readAll, readWorld, unchecked, readStep, Sized, noLists, readAnswer}
 use Rattle.agreement.specs.Keeping.{Formed}

@@ -15,8 +15,8 @@ use Rattle.execute.specs.World.{World}
 use Rattle.execute.specs.Execute.{execute, admits}
 use Rattle.execute.specs.declared.Mode.{Mode}
 use Rattle.execute.specs.declared.Mode.the-variants.{Plain, Deferred}
-use Rattle.run.specs.Pending.{Lists}
-use Rattle.run.specs.Step.{Rules, step}
+use Rattle.pending.specs.Pending.{Lists}
+use Rattle.step.specs.Step.{Rules, step}
 use Rattle.run.specs.Run.{run}
 use Rattle.run.proofs.run_plain
 use Rattle.run.proofs.run_deferred

@@ -19,12 +19,13 @@ use Rattle.execute.specs.declared.Went.{Went}
 use Rattle.execute.specs.declared.Went.the-variants as W
 use Rattle.execute.specs.declared.Check.{Check}
 use Rattle.execute.specs.declared.Check.the-variants.{Unneeded, Needed}
-use Rattle.run.specs.Pending.{Lists, listsFit, fullAt, listing}
-use Rattle.run.specs.Step.{documentRules}
+use Rattle.pending.specs.Pending.{Lists, listsFit, fullAt, listing}
+use Rattle.step.specs.Step.{documentRules}
 use Rattle.run.specs.Run.{Answer, answer, after, goesOn, stopOf, loop, run}
 use Rattle.run.specs.Leg.{Leg, legIn, gone}
 use Rattle.run.specs.declared.leg.Gone.{Gone}
-use Rattle.run.proofs.Loops.{step-malformed, step-taken, run-malformed, run-halted, run-taken}
+use Rattle.step.proofs.Steps.{step-malformed, step-taken}
+use Rattle.run.proofs.Loops.{run-malformed, run-halted, run-taken}
 use Rattle.run.proofs.Legs.{onward, loop-is-legs, step-is-leg, leg-within, leg-moves}
 use Rattle.checks.specs.Records.{listed}
 use Rattle.checked.specs.Machine.{ranOver, Notes, Steps, Begins, Ahead, comesTo, number, ahead, Turns}

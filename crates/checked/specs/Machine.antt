@@ -8,10 +8,10 @@ use Rattle.state.specs.declared.State.{State}
 use Rattle.execute.specs.World.{World, worldOf}
 use Rattle.execute.specs.declared.Mode.{Mode}
 use Rattle.execute.specs.declared.Check.{Check}
-use Rattle.run.specs.Pending.{listing}
-use Rattle.run.specs.Step.{Left, left, documentRules, step}
+use Rattle.pending.specs.Pending.{listing}
+use Rattle.step.specs.Step.{Left, left, documentRules, step}
 use Rattle.run.specs.Run.{Answer, answer, after, loop, run}
-use Rattle.run.specs.declared.OneStep.{OneStep}
+use Rattle.step.specs.declared.OneStep.{OneStep}
 use Rattle.run.specs.declared.Ran.{Ran}
 use Rattle.checks.specs.Records.{listed}
 use Rattle.checks.specs.declared.Pending.{Pending}

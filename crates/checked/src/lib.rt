@@ -6,18 +6,18 @@ use execute::Mode;
 use execute::Went;
 use refusal::Refusal;
 use refusal::Stop;
-use run::OneStep;
 use run::Ran;
 use run::leg;
 use state::State;
+use step::OneStep;
 ghost use mathlib.Core.Path.{_≡_};
 ghost use mathlib.Core.Bool.{_&&_};
 ghost use lib.Dec.{leb};
 ghost use Rattle.state.specs.Formed.{registersOf};
 ghost use Rattle.execute.specs.World.{worldOf};
 ghost use Rattle.execute.specs.Execute.{admits};
-ghost use Rattle.run.specs.Pending.{fullAt};
-ghost use Rattle.run.specs.Step.{documentRules, step};
+ghost use Rattle.pending.specs.Pending.{fullAt};
+ghost use Rattle.step.specs.Step.{documentRules, step};
 ghost use Rattle.run.specs.Run.{run};
 ghost use Rattle.checks.specs.Records.{listed};
 ghost use Rattle.checked.specs.Machine.{steppedOver, ranOver, Notes, Steps, Begins, Turns};
@@ -139,7 +139,7 @@ fn step_at(mode: Mode, s: State, m: &mut [u8], room: usize, count: usize) -> Mov
     }
 }
 
-// A single step, as `run::step`.
+// A single step, as `step::step`.
 pub fn step(mode: Mode, s: State, m: &mut [u8], list: &mut [Pending], count: usize) -> OneStep
     ensures { λ r. ⌜ steppedOver r (now (m .exit)) (now (list .exit)) ≡ step mode documentRules (worldOf s (now (m .entry))) (listed count (now (list .entry))) ⌝ }
 {

@@ -1,12 +1,12 @@
 // Pending checks as one lent slice of records, and how many of them are in use.
+use pending::Appended;
+use pending::Entry;
 use refusal::Refusal;
-use run::pending::Appended;
-use run::pending::Entry;
 ghost use mathlib.Core.Path.{_≡_};
 ghost use mathlib.Core.Bool.{_||_};
 ghost use lib.Dec.{leb, ltb};
 ghost use lib.ListN.{set};
-ghost use Rattle.run.specs.Pending.{emptied, entryAt};
+ghost use Rattle.pending.specs.Pending.{emptied, entryAt};
 ghost use Rattle.checks.specs.Records.{listed, answerTo, withOne, Fits};
 
 #[repr(C)]

@@ -8,8 +8,8 @@ use Rattle.execute.specs.declared.Went.{Went}
 use Rattle.execute.specs.declared.Went.the-variants as W
 use Rattle.execute.specs.declared.Check.{Check}
 use Rattle.execute.specs.declared.Check.the-variants.{Unneeded, Needed}
-use Rattle.run.specs.Pending.{Lists}
-use Rattle.run.specs.Step.{Left}
+use Rattle.pending.specs.Pending.{Lists}
+use Rattle.step.specs.Step.{Left}
 use Rattle.run.specs.Run.{Answer}
 use Rattle.layout.specs.Layout.{STATE_BYTES, stateBytes, written}
 use Rattle.layout.specs.Answer.{ANSWER_BYTES, answerBytes}

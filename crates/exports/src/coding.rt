@@ -1,12 +1,12 @@
 // Decoder and encoder of instructions: `words`.
-use words::Decoded;
-use words::Encoded;
 use instruction::Instruction;
 use instruction::Parts;
 use layout::answer::write_answer;
 use opcode::Found;
 use refusal::number;
 use refusal::particular;
+use words::Decoded;
+use words::Encoded;
 ghost use mathlib.Core.Path.{_≡_};
 ghost use Rattle.opcode.specs.Opcodes.{opcodeNumber, opcodeIn};
 ghost use Rattle.words.specs.Words.{decodeIn, encodeIn};

@@ -2,11 +2,11 @@
 use layout::answer::write_answer;
 use layout::reading::read_state;
 use layout::writing::write_state;
-use refusal::number;
-use state::State;
 use normalize::NormalizationResult;
 use normalize::Normalized;
 use normalize::Normalizing;
+use refusal::number;
+use state::State;
 ghost use mathlib.Core.Path.{_≡_};
 ghost use Rattle.normalize.specs.Normalizing.{wouldOverflow};
 ghost use Rattle.layout.specs.Layout.{stateIn, written};

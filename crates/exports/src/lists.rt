@@ -1,12 +1,11 @@
-// Pending checks, in three lent lists: `run::pending`.
+// Pending checks, in three lent lists: `pending`.
 use layout::answer::write_answer;
+use pending::Appended;
+use pending::Entry;
 use refusal::number;
 use refusal::particular;
-use run::pending;
-use run::pending::Appended;
-use run::pending::Entry;
 ghost use mathlib.Core.Path.{_≡_};
-ghost use Rattle.run.specs.Pending.{lists, appendAnswer, appendLists, emptied, entryAt};
+ghost use Rattle.pending.specs.Pending.{lists, appendAnswer, appendLists, emptied, entryAt};
 ghost use Rattle.layout.specs.Layout.{written};
 ghost use Rattle.layout.specs.Answer.{ANSWER_BYTES};
 ghost use Rattle.exports.specs.Lists.{appendedBytes, entryIn};

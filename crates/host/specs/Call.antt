@@ -11,8 +11,8 @@ use Rattle.execute.specs.World.{World, worldOf}
 use Rattle.execute.specs.Execute.{admits}
 use Rattle.execute.specs.declared.Mode.{Mode}
 use Rattle.execute.specs.declared.Mode.the-variants.{Plain, Deferred}
-use Rattle.run.specs.Pending.{Lists, lists}
-use Rattle.run.specs.Step.{documentRules}
+use Rattle.pending.specs.Pending.{Lists, lists}
+use Rattle.step.specs.Step.{documentRules}
 use Rattle.run.specs.Run.{Answer, run}
 use Rattle.layout.specs.Layout.{stateBytes, stateIn, wellLaid, written}
 use Rattle.layout.specs.Answer.{ANSWER_BYTES, answerBytes}

@@ -2,8 +2,8 @@
 use checks::Pending;
 use execute::Mode;
 use execute::Went;
-use run::OneStep;
 use state::State;
+use step::OneStep;
 ghost use mathlib.Core.Path.{_≡_};
 ghost use mathlib.Core.Bool.{_&&_};
 ghost use lib.Dec.{leb};

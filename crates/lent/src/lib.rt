@@ -5,7 +5,7 @@ use execute::Went;
 use state::State;
 ghost use mathlib.Core.Path.{_≡_};
 ghost use Rattle.execute.specs.World.{worldOf};
-ghost use Rattle.run.specs.Step.{left, documentRules, step};
+ghost use Rattle.step.specs.Step.{left, documentRules, step};
 ghost use Rattle.checks.specs.Records.{listed};
 
 pub mod exported; // exported.rt: the same for a host over C, as a record of numbers

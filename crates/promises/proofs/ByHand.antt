@@ -9,8 +9,8 @@ use Rattle.checks.proofs as checks
 use Rattle.checked.proofs as checked
 use Rattle.lent.proofs as lent
 use Rattle.execute.specs.World.{worldOf}
-use Rattle.run.specs.Pending.{Lists, emptied, entryAt}
-use Rattle.run.specs.Step.{Left, left, documentRules, step}
+use Rattle.pending.specs.Pending.{Lists, emptied, entryAt}
+use Rattle.step.specs.Step.{Left, left, documentRules, step}
 use Rattle.run.specs.Run.{Answer, run}
 use Rattle.host.specs.Call.{stateOf}
 use Rattle.checks.specs.Records.{listed, answerTo, withOne}

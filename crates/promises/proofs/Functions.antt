@@ -15,6 +15,8 @@ use Rattle.normalize.proofs as normalize
 use Rattle.effect.proofs as effect
 use Rattle.deferred.proofs as deferred
 use Rattle.execute.proofs as execute
+use Rattle.pending.proofs as pending
+use Rattle.step.proofs as step
 use Rattle.run.proofs as run
 use Rattle.layout.proofs as layout
 use Rattle.host.proofs as host
@@ -23,8 +25,8 @@ use Rattle.exports.proofs as exports
 use Rattle.state.specs.Registers.{Registers}
 use Rattle.deferred.specs.Limbs.{Limbed}
 use Rattle.execute.specs.World.{Stepped}
-use Rattle.run.specs.Pending.{Lists}
-use Rattle.run.specs.Step.{Left}
+use Rattle.pending.specs.Pending.{Lists}
+use Rattle.step.specs.Step.{Left}
 use Rattle.run.specs.Run.{Answer}
 use Rattle.run.specs.Leg.{Leg}
 use Rattle.host.specs.Call.{Called}
@@ -359,24 +361,41 @@ execute·admits κs a x y = one (λ r. r & x .1)
 pub execute·execute : Determined execute.execute.ended execute.execute.Reads.Learnt
 execute·execute κs a x y = one (λ (s : Stepped). executedOf s & tt & tt & tt & s .world .memory & tt)
 
--- ---- run
-pub run·step : Determined run.step.ended run.step.Reads.Learnt
-run·step κs a x y = one (λ (l : Left). oneStepOf l & tt & tt & l .world .memory & l .lists .values & l .lists .bounds & l .lists .pcs & tt & tt)
+-- ---- pending
+pub pending·lists-fit : Determined pending.lists_fit.ended pending.lists_fit.Reads.Learnt
+pending·lists-fit κs a x y = one (λ r. r & x .1)
 
+pub pending·full-at : Determined pending.full_at.ended pending.full_at.Reads.Learnt
+pending·full-at κs a x y = one (λ r. r & x .1)
+
+pub pending·list : Determined pending.list.ended pending.list.Reads.Learnt
+pending·list κs a x y = one (λ (l : Lists). l .count & l .values & l .bounds & l .pcs & x .1 .1 .1 .1)
+
+pub pending·append : Determined pending.append.ended pending.append.Reads.Learnt
+pending·append κs a x y = two (λ r (l : Lists). r & l .values & l .bounds & l .pcs & x .1 .1 .1 .1)
+
+pub pending·empty : Determined pending.empty.ended pending.empty.Reads.Learnt
+pending·empty κs a x y = one (λ (l : Lists). l .count & l .values & l .bounds & l .pcs & x .1 .1 .1 .1)
+
+pub pending·read : Determined pending.read.ended pending.read.Reads.Learnt
+pending·read κs a x y = one (λ r. r & x .1)
+
+-- ---- step
+pub step·step-in : Determined step.step_in.ended step.step_in.Reads.Learnt
+step·step-in κs a x y = one (λ (s : Stepped). let R = s .world .registers in advanceOf s & tt & tt & tt & tt & R .values & R .accumulated & R .bounds & s .world .memory & tt)
+
+pub step·takes : Determined step.takes.ended step.takes.Reads.Learnt
+step·takes κs a x y = one (λ r. r & x .1)
+
+pub step·step : Determined step.step.ended step.step.Reads.Learnt
+step·step κs a x y = one (λ (l : Left). oneStepOf l & tt & tt & l .world .memory & l .lists .values & l .lists .bounds & l .lists .pcs & tt & tt)
+
+-- ---- run
 pub run·run-plain : Determined run.run_plain.ended run.run_plain.Reads.Learnt
 run·run-plain κs a x y = one (λ (r : Answer). ranOf r & tt & tt & r .world .memory & r .lists .values & r .lists .bounds & r .lists .pcs & tt & tt)
 
 pub run·run-deferred : Determined run.run_deferred.ended run.run_deferred.Reads.Learnt
 run·run-deferred κs a x y = one (λ (r : Answer). ranOf r & tt & tt & r .world .memory & r .lists .values & r .lists .bounds & r .lists .pcs & tt & tt)
-
-pub run·pending·append : Determined run.pending.append.ended run.pending.append.Reads.Learnt
-run·pending·append κs a x y = two (λ r (l : Lists). r & l .values & l .bounds & l .pcs & x .1 .1 .1 .1)
-
-pub run·pending·empty : Determined run.pending.empty.ended run.pending.empty.Reads.Learnt
-run·pending·empty κs a x y = one (λ (l : Lists). l .count & l .values & l .bounds & l .pcs & x .1 .1 .1 .1)
-
-pub run·pending·read : Determined run.pending.read.ended run.pending.read.Reads.Learnt
-run·pending·read κs a x y = one (λ r. r & x .1)
 
 pub run·goes-on : Determined run.goes_on.ended run.goes_on.Reads.Learnt
 run·goes-on κs a x y = one (λ r. r & x .1)

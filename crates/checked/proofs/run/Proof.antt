@@ -9,7 +9,7 @@ use denote.Enum.Laws as EL
 use Rattle.state.specs.declared.State.{State}
 use Rattle.execute.specs.World.{worldOf}
 use Rattle.execute.specs.declared.Mode.{Mode}
-use Rattle.run.specs.Step.{documentRules}
+use Rattle.step.specs.Step.{documentRules}
 use Rattle.run.specs.Run.{Answer, run as runs}
 use Rattle.checks.specs.Records.{listed}
 use Rattle.checked.specs.Machine.{Ahead, Begins, Turns, ahead}

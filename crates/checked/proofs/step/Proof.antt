@@ -14,8 +14,8 @@ use Rattle.execute.proofs.Mode as O
 use Rattle.execute.proofs.Mode.Laws as O′
 use Rattle.state.proofs.State as T
 use Rattle.state.proofs.State.Laws as T′
-use Rattle.run.proofs.OneStep as N
-use Rattle.run.proofs.OneStep.Laws as N′
+use Rattle.step.proofs.OneStep as N
+use Rattle.step.proofs.OneStep.Laws as N′
 use Rattle.checks.proofs.Pending as K
 use Rattle.checked.proofs.Moved as D
 use Rattle.checked.proofs.Moved.Laws as D′

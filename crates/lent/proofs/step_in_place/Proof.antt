@@ -7,8 +7,8 @@ use denote.Enum.Laws as EL
 use Rattle.state.specs.declared.State.{State}
 use Rattle.execute.specs.World.{worldOf}
 use Rattle.execute.specs.declared.Mode.{Mode}
-use Rattle.run.specs.Step.{documentRules, step as steps}
-use Rattle.run.specs.declared.OneStep.{OneStep}
+use Rattle.step.specs.Step.{documentRules, step as steps}
+use Rattle.step.specs.declared.OneStep.{OneStep}
 use Rattle.checks.specs.Records.{listed}
 use Rattle.checked.specs.Machine.{steppedOver}
 use Rattle.checks.specs.declared.Pending.{Pending}
@@ -18,8 +18,8 @@ use Rattle.execute.proofs.Mode as O
 use Rattle.execute.proofs.Mode.Laws as O′
 use Rattle.state.proofs.State as T
 use Rattle.state.proofs.State.Laws as T′
-use Rattle.run.proofs.OneStep as N
-use Rattle.run.proofs.OneStep.Laws as N′
+use Rattle.step.proofs.OneStep as N
+use Rattle.step.proofs.OneStep.Laws as N′
 use Rattle.checks.proofs.Pending as K
 use Rattle.lent.proofs.Outcome as Q
 use Rattle.lent.proofs.Outcome.Laws as Q′
