@@ -17,12 +17,11 @@ ghost use mathlib.Core.Bool.{_&&_};
 ghost use Rattle.state.specs.Registers.{registers, Becomes};
 ghost use Rattle.effect.specs.Notes.{documentNotes};
 ghost use Rattle.effect.specs.Operations.{plus64};
-ghost use Rattle.effect.specs.declared.Outcome.the-variants.{Does};
 ghost use Rattle.execute.specs.World.{world, advanced, wentOf, marked, keeping, checkOf, does, done};
 ghost use Rattle.instruction.specs.Operands.{joinedOf};
 ghost use Rattle.deferred.specs.Limbs.{limbed};
 ghost use Rattle.execute.specs.Modes.{limbsIn, settle};
-ghost use Rattle.execute.specs.Execute.{wholly, execute};
+ghost use Rattle.execute.specs.Execute.{execute};
 ghost use Rattle.execute.specs.declared.Went.the-variants as W;
 ghost use Rattle.execute.specs.declared.Check.the-variants.{Unneeded};
 
@@ -125,7 +124,7 @@ fn refuse(r: Refusal, pc: u64, halted: bool) -> Advance
 fn carry_out(
     mode: Mode,
     full: bool,
-    e: Effect,
+    outcome: Outcome,
     p: Parts,
     pc: u64,
     halted: bool,
@@ -134,34 +133,15 @@ fn carry_out(
     bounds: &mut [u8; 16],
     m: &mut [u8],
 ) -> Advance
-    ensures { λ r. ⌜ advanced r (registers (now (regs .exit)) (now (accumulated .exit)) (now (bounds .exit))) (now (m .exit)) ≡ done full (Does e) (world pc halted (registers (now (regs .entry)) (now (accumulated .entry)) (now (bounds .entry))) (now (m .entry))) (settle mode (joinedOf p) (registers (now (regs .entry)) (now (accumulated .entry)) (now (bounds .entry)))) ⌝ }
+    ensures { λ r. ⌜ advanced r (registers (now (regs .exit)) (now (accumulated .exit)) (now (bounds .exit))) (now (m .exit)) ≡ done full outcome (world pc halted (registers (now (regs .entry)) (now (accumulated .entry)) (now (bounds .entry))) (now (m .entry))) (settle mode (joinedOf p) (registers (now (regs .entry)) (now (accumulated .entry)) (now (bounds .entry)))) ⌝ }
 {
-    if both(full, e.checked) {
-        return refuse(Refusal::ListFull { pc }, pc, halted);
-    }
-    settle(mode, p, regs, accumulated);
-    apply(e, halted, regs, accumulated, bounds, m)
-}
-
-// The instruction on whole values. It is decided on the registers as they are, since normalising changes no value; and so a refusal
-// changes nothing.
-fn wholly(
-    mode: Mode,
-    full: bool,
-    p: Parts,
-    pc: u64,
-    halted: bool,
-    regs: &mut [u64; 16],
-    accumulated: &mut [bool; 16],
-    bounds: &mut [u8; 16],
-    m: &mut [u8],
-) -> Advance
-    ensures { λ r. ⌜ advanced r (registers (now (regs .exit)) (now (accumulated .exit)) (now (bounds .exit))) (now (m .exit)) ≡ wholly full documentNotes (joinedOf p) (world pc halted (registers (now (regs .entry)) (now (accumulated .entry)) (now (bounds .entry))) (now (m .entry))) (settle mode (joinedOf p) (registers (now (regs .entry)) (now (accumulated .entry)) (now (bounds .entry)))) ⌝ }
-{
-    let outcome = effect::effect_of_parts(p, pc, regs, accumulated, bounds, m);
     match outcome {
         Outcome::Does(e) => {
-            carry_out(mode, full, e, p, pc, halted, regs, accumulated, bounds, m)
+            if both(full, e.checked) {
+                return refuse(Refusal::ListFull { pc }, pc, halted);
+            }
+            settle(mode, p, regs, accumulated);
+            apply(e, halted, regs, accumulated, bounds, m)
         }
         Outcome::Refuses(r) => refuse(r, pc, halted),
     }
@@ -193,7 +173,8 @@ fn onward(pc: u64, halted: bool) -> Advance
     }
 }
 
-// `full` says that a list of checks is lent and has no room.
+// `full` says that a list of checks is lent and has no room. On whole values the instruction is decided on the registers as they are,
+// since normalising changes no value; and so a refusal changes nothing.
 pub fn execute(
     mode: Mode,
     full: bool,
@@ -210,5 +191,17 @@ pub fn execute(
     if limbs_in(mode, p, regs, accumulated, bounds) {
         return onward(pc, halted);
     }
-    wholly(mode, full, p, pc, halted, regs, accumulated, bounds, m)
+    let outcome = effect::effect_of_parts(p, pc, regs, accumulated, bounds, m);
+    carry_out(
+        mode,
+        full,
+        outcome,
+        p,
+        pc,
+        halted,
+        regs,
+        accumulated,
+        bounds,
+        m,
+    )
 }
