@@ -1,4 +1,4 @@
-// The fifty opcodes (document 01, "Words"): their numbers, and how an instruction of each lies in its word.
+// The fifty opcodes (document 01, "Words") and their numbers, and the forms that words have.
 ghost use mathlib.Core.Path.{_≡_};
 ghost use mathlib.Core.Bool.{true};
 ghost use Rattle.encoding.specs.Fields.{within};
@@ -132,6 +132,7 @@ pub fn number(op: Opcode) -> u8
     }
 }
 
+// Of a number that has one.
 fn opcode_at(n: u8) -> Opcode
     requires { ⌜ within 1 50 n ≡ true ⌝ }
     ensures { λ r. ⌜ Found.Op r ≡ opcodeIn opcodeNumber n ⌝ }

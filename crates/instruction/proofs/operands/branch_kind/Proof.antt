@@ -1,12 +1,8 @@
-use Rattle.opcode.proofs.Variants.{place, all-at}
-use Rattle.opcode.proofs.Arms.{arm}
 use Rattle.opcode.specs.Opcodes.{all}
-use Rattle.opcode.specs.declared.Opcode.{Opcode}
-use Rattle.opcode.specs.declared.Opcode.the-variants as O
 use Rattle.instruction.specs.declared.BranchKind.the-variants.{Beq}
 use Rattle.instruction.specs.Operands.{branchOf}
 use Rattle.instruction.proofs.BranchKind as Kind
-use Rattle.instruction.proofs.Kindred.{alike}
+use Rattle.instruction.proofs.Kindred.{others}
 use denote.Enum.Declared.{tagOf}
 use mathlib.Core.Path.{refl}
 use borrow.Author.Needs.{needs}
@@ -45,7 +41,7 @@ returns-5 c = rw (c .enum-told5 .given .1)
 
 returns-6 : tie.Need-returns-6
 unfolding all
-returns-6 c = arm all O.Add place all-at branchOf Beq (alike (λ (op : Opcode). tagOf Kind.the-type (branchOf op)) O.Add) refl (c .before .args .op) (c .match .keys6)
+returns-6 c = others (tagOf Kind.the-type) branchOf Beq refl (c .before .args .op) (c .match .keys6)
 
 pub branch-kind-spec : {M : Type 1} → statement M
 branch-kind-spec =

@@ -1,12 +1,8 @@
-use Rattle.opcode.proofs.Variants.{place, all-at}
-use Rattle.opcode.proofs.Arms.{arm}
 use Rattle.opcode.specs.Opcodes.{all}
-use Rattle.opcode.specs.declared.Opcode.{Opcode}
-use Rattle.opcode.specs.declared.Opcode.the-variants as O
 use Rattle.instruction.specs.declared.MoveKind.the-variants.{Cmov}
 use Rattle.instruction.specs.Operands.{moveOf}
 use Rattle.instruction.proofs.MoveKind as Kind
-use Rattle.instruction.proofs.Kindred.{alike}
+use Rattle.instruction.proofs.Kindred.{others}
 use denote.Enum.Declared.{tagOf}
 use mathlib.Core.Path.{refl}
 use borrow.Author.Needs.{needs}
@@ -27,7 +23,7 @@ returns-2 c = rw (c .enum-told2 .given .1)
 
 returns-3 : tie.Need-returns-3
 unfolding all
-returns-3 c = arm all O.Add place all-at moveOf Cmov (alike (λ (op : Opcode). tagOf Kind.the-type (moveOf op)) O.Add) refl (c .before .args .op) (c .match .keys3)
+returns-3 c = others (tagOf Kind.the-type) moveOf Cmov refl (c .before .args .op) (c .match .keys3)
 
 pub move-kind-spec : {M : Type 1} → statement M
 move-kind-spec = tie.close (tie.spec enum-told enum-told-2 returns returns-2 returns-3)

@@ -1,12 +1,8 @@
-use Rattle.opcode.proofs.Variants.{place, all-at}
-use Rattle.opcode.proofs.Arms.{arm}
 use Rattle.opcode.specs.Opcodes.{all}
-use Rattle.opcode.specs.declared.Opcode.{Opcode}
-use Rattle.opcode.specs.declared.Opcode.the-variants as O
 use Rattle.instruction.specs.declared.Operation.the-variants.{Mulh}
 use Rattle.instruction.specs.Operands.{operationOf}
 use Rattle.instruction.proofs.Operation as Kind
-use Rattle.instruction.proofs.Kindred.{alike}
+use Rattle.instruction.proofs.Kindred.{others}
 use denote.Enum.Declared.{tagOf}
 use mathlib.Core.Path.{refl}
 use borrow.Author.Needs.{needs}
@@ -87,7 +83,7 @@ returns-12 c = rw (c .enum-told12 .given .1)
 
 returns-13 : tie.Need-returns-13
 unfolding all
-returns-13 c = arm all O.Add place all-at operationOf Mulh (alike (λ (op : Opcode). tagOf Kind.the-type (operationOf op)) O.Add) refl (c .before .args .op) (c .match .keys13)
+returns-13 c = others (tagOf Kind.the-type) operationOf Mulh refl (c .before .args .op) (c .match .keys13)
 
 pub operation-spec : {M : Type 1} → statement M
 operation-spec =

@@ -1,12 +1,8 @@
-use Rattle.opcode.proofs.Variants.{place, all-at}
-use Rattle.opcode.proofs.Arms.{arm}
 use Rattle.opcode.specs.Opcodes.{all}
-use Rattle.opcode.specs.declared.Opcode.{Opcode}
-use Rattle.opcode.specs.declared.Opcode.the-variants as O
 use Rattle.instruction.specs.declared.StoreKind.the-variants.{Sb}
 use Rattle.instruction.specs.Operands.{storeOf}
 use Rattle.instruction.proofs.StoreKind as Kind
-use Rattle.instruction.proofs.Kindred.{alike}
+use Rattle.instruction.proofs.Kindred.{others}
 use denote.Enum.Declared.{tagOf}
 use mathlib.Core.Path.{refl}
 use borrow.Author.Needs.{needs}
@@ -33,7 +29,7 @@ returns-3 c = rw (c .enum-told3 .given .1)
 
 returns-4 : tie.Need-returns-4
 unfolding all
-returns-4 c = arm all O.Add place all-at storeOf Sb (alike (λ (op : Opcode). tagOf Kind.the-type (storeOf op)) O.Add) refl (c .before .args .op) (c .match .keys4)
+returns-4 c = others (tagOf Kind.the-type) storeOf Sb refl (c .before .args .op) (c .match .keys4)
 
 pub store-kind-spec : {M : Type 1} → statement M
 store-kind-spec =
