@@ -16,8 +16,7 @@ ghost use Prim.Native.Nat.{_%_, _*_, _/_};
 ghost use lib.Dec.{eqb};
 ghost use lib.ListN.{length};
 ghost use Rattle.refusal.specs.Stops.{refusalOf};
-ghost use Rattle.value.specs.Forty.{add40, sub40, mul40, and40, or40, xor40, shl40, shr40, sra40};
-ghost use Rattle.value.specs.Product.{mulhOf};
+ghost use Rattle.value.specs.Forty.{add40, sub40, mul40, and40, or40, xor40, shl40, shr40};
 ghost use Rattle.memory.specs.Memory.{sizeOf, loadOf, storeOf};
 ghost use Rattle.bound.specs.Bits.{bitsOf, afterAdd, afterSub, afterMul, afterDiv, afterAnd, afterShl, afterSrl, afterSra, afterCmp, afterMove, afterLoad};
 ghost use Rattle.effect.specs.Operations.{plus64, bit, loaded, loadSize};
@@ -122,14 +121,10 @@ pub(crate) fn mul(o: Operands) -> Outcome
     writes_checked(o, value::forty::mul(o.b, o.c), bound::after_mul(o.y, o.z))
 }
 
-pub(crate) fn mulh(o: Operands) -> Outcome
-    ensures { λ r. ⌜ r ≡ writes (o .rd) (mulhOf (o .b) (o .c)) (afterMul (o .y) (o .z)) (plus64 (o .pc) 4) ⌝ }
+pub(crate) fn mulh(o: Operands, high: u64) -> Outcome
+    ensures { λ r. ⌜ r ≡ writes (o .rd) high (afterMul (o .y) (o .z)) (plus64 (o .pc) 4) ⌝ }
 {
-    writes(
-        o,
-        value::product::mulh(o.b, o.c),
-        bound::after_mul(o.y, o.z),
-    )
+    writes(o, high, bound::after_mul(o.y, o.z))
 }
 
 pub(crate) fn and(o: Operands, t: u64, bound: u8) -> Outcome
@@ -170,14 +165,10 @@ pub(crate) fn srl(o: Operands, t: u64) -> Outcome
     )
 }
 
-pub(crate) fn sra(o: Operands, t: u64) -> Outcome
-    ensures { λ r. ⌜ r ≡ writes (o .rd) (sra40 (o .b) (t % 64)) (afterSra (o .y) (t % 64)) (plus64 (o .pc) 4) ⌝ }
+pub(crate) fn sra(o: Operands, value: u64, t: u64) -> Outcome
+    ensures { λ r. ⌜ r ≡ writes (o .rd) value (afterSra (o .y) (t % 64)) (plus64 (o .pc) 4) ⌝ }
 {
-    writes(
-        o,
-        value::forty::sra(o.b, t % 64),
-        bound::after_sra(o.y, t % 64),
-    )
+    writes(o, value, bound::after_sra(o.y, t % 64))
 }
 
 fn one_if(t: bool) -> u64

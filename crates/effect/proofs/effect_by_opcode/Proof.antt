@@ -18,7 +18,7 @@ returns-3 c a b x imm v e = rw (c .before .enum-told3 .given .1, c .mul .ensures
 
 returns-4 : tie.Need-returns-4
 unfolding effect result resultBits
-returns-4 c a b x imm v e = rw (c .before .enum-told4 .given .1, c .mulh .ensures, e)
+returns-4 c a b x imm v e = rw (c .before .before .enum-told4 .given .1, c .mulh2 .ensures, c .before .mulh .ensures, e)
 
 returns-5 : tie.Need-returns-5
 unfolding effect dividing divided
@@ -74,7 +74,7 @@ returns-17 c a b x imm v e = rw (c .before .enum-told17 .given .1, c .srl .ensur
 
 returns-18 : tie.Need-returns-18
 unfolding effect result resultBits
-returns-18 c a b x imm v e = rw (c .before .enum-told18 .given .1, c .sra .ensures, e)
+returns-18 c a b x imm v e = rw (c .before .before .before .enum-told18 .given .1, c .sra2 .ensures, c .before .sra .ensures, e)
 
 returns-19 : tie.Need-returns-19
 unfolding effect result resultBits registerForm
@@ -86,7 +86,7 @@ returns-20 c a b x imm v e = rw (c .before .enum-told20 .given .1, c .srl2 .ensu
 
 returns-21 : tie.Need-returns-21
 unfolding effect result resultBits registerForm
-returns-21 c a b x imm v e = rw (c .before .enum-told21 .given .1, c .sra2 .ensures, e)
+returns-21 c a b x imm v e = rw (c .before .before .before .enum-told21 .given .1, c .sra4 .ensures, c .before .sra3 .ensures, e)
 
 returns-22 : tie.Need-returns-22
 unfolding effect result resultBits
@@ -211,7 +211,7 @@ effect-by-opcode-spec =
     (λ c. c .match .keys1) (λ c κs. tt)
     (λ c. c .match .keys2) (λ c κs. tt)
     (λ c. c .match .keys3) (λ c κs. tt)
-    (λ c. c .match .keys4) (λ c κs. tt)
+    (λ c. c .match .keys4) (λ c κs. tt) (λ c κs. tt)
     (λ c. c .match .keys5) (λ c κs. tt) (λ c κs. tt)
     (λ c. c .match .keys6) (λ c κs. tt) (λ c κs. tt)
     (λ c. c .match .keys7) (λ c κs. tt) (λ c κs. tt)
@@ -225,10 +225,10 @@ effect-by-opcode-spec =
     (λ c. c .match .keys15) (λ c κs. tt) (λ c κs. tt)
     (λ c. c .match .keys16) (λ c κs. tt)
     (λ c. c .match .keys17) (λ c κs. tt)
-    (λ c. c .match .keys18) (λ c κs. tt)
+    (λ c. c .match .keys18) (λ c κs. tt) (λ c κs. tt)
     (λ c. c .match .keys19) (λ c κs. tt)
     (λ c. c .match .keys20) (λ c κs. tt)
-    (λ c. c .match .keys21) (λ c κs. tt)
+    (λ c. c .match .keys21) (λ c κs. tt) (λ c κs. tt)
     (λ c. c .match .keys22) (λ c κs. tt) (λ c κs. tt)
     (λ c. c .match .keys23) (λ c κs. tt) (λ c κs. tt)
     (λ c. c .match .keys24) (λ c κs. tt) (λ c κs. tt)

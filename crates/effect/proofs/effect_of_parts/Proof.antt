@@ -1,5 +1,3 @@
-use Rattle.effect.specs.Effects.{seen}
-use Rattle.state.specs.Registers.{registers}
 use Rattle.effect.proofs.effect_of_parts.Statement.{statement}
 use Rattle.effect.proofs.effect_of_parts.Tie as tie
 

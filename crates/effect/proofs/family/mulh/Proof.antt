@@ -1,9 +1,6 @@
 use Rattle.effect.proofs.family.mulh.Statement.{statement}
 use Rattle.effect.proofs.family.mulh.Tie as tie
 
-mulh-requires : tie.Need-mulh-requires
-mulh-requires c κs = tt
-
 after-mul-requires : tie.Need-after-mul-requires
 after-mul-requires c κs = tt
 
@@ -11,7 +8,7 @@ writes-requires : tie.Need-writes-requires
 writes-requires c κs = tt
 
 returns : tie.Need-returns
-returns c = rw (c .writes .ensures, c .before .after-mul .ensures, c .before .before .mulh .ensures)
+returns c = rw (c .writes .ensures, c .before .after-mul .ensures)
 
 pub mulh-spec : {M : Type 1} → statement M
-mulh-spec = tie.close (tie.spec mulh-requires after-mul-requires writes-requires returns)
+mulh-spec = tie.close (tie.spec after-mul-requires writes-requires returns)
