@@ -3,7 +3,6 @@ use instruction::Parts;
 use opcode::Form;
 use opcode::Opcode;
 use state::registers;
-ghost use mathlib.Core.Path.{_≡_};
 ghost use mathlib.Core.Bool.{cond};
 ghost use lib.Dec.{eqb};
 ghost use Rattle.state.specs.Registers.{normalise, Becomes};

@@ -1,7 +1,7 @@
 // The sums and differences of limbs, in numbers alone.
 ghost use mathlib.Core.Path.{_≡_};
 ghost use mathlib.Core.Bool.{true, false, cond, _&&_};
-ghost use Prim.Native.Nat.{_+_, _-_, _*_, _/_, _%_, _^_, _≤_};
+ghost use Prim.Native.Nat.{_+_, _-_, _*_, _/_, _%_, _^_};
 ghost use lib.Dec.{ltb};
 ghost use Rattle.bound.specs.Bits.{bitsOf, afterAdd, afterSub};
 ghost use Rattle.state.specs.Held.{Whole, Limbs, valueOf};
