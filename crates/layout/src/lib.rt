@@ -12,4 +12,4 @@ pub const RECORD_BYTES: usize = 24;
 pub const STATE_BYTES: usize = HEADER_BYTES + 16 * RECORD_BYTES;
 
 // Limbs are below 2^30.
-pub const LIMB_LIMIT: u64 = 0x4000_0000;
+pub(crate) const LIMB_LIMIT: u64 = 0x4000_0000;

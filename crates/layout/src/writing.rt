@@ -14,7 +14,7 @@ ghost use lib.Seq.{sets};
 ghost use Rattle.memory.specs.Bytes.{bytes};
 ghost use Rattle.state.specs.Held.{heldOf};
 ghost use Rattle.state.specs.Formed.{registersOf};
-ghost use Rattle.layout.specs.Layout.{HEADER_BYTES, RECORD_BYTES, STATE_BYTES, markOf, recordBytes, records, stateBytes, written};
+ghost use Rattle.layout.specs.Layout.{HEADER_BYTES, STATE_BYTES, markOf, recordBytes, records, stateBytes, written};
 ghost use Rattle.layout.specs.Numbers.{numbersOf};
 
 // A register's record as three numbers: kind, bound and six zeros are the first.
@@ -67,7 +67,7 @@ fn put_header(into: &mut [u8], pc: u64, mark: u64)
 }
 
 pub(crate) fn put_three(into: &mut [u8], at: usize, a: u64, b: u64, c: u64)
-    requires { ⌜ at + RECORD_BYTES ≤ length (now into) ⌝ }
+    requires { ⌜ at + 24 ≤ length (now into) ⌝ }
     ensures { λ _. ⌜ now (into .exit) ≡ sets (now (into .entry)) at (bytes 8 a ++ (bytes 8 b ++ bytes 8 c)) ⌝ }
 {
     put_number(into, at, 8, a);

@@ -1,5 +1,4 @@
 use borrow.Author.Tests.{eq-eqb, ne-eqb}
-use mathlib.Core.Path.{_∙_}
 use Rattle.state.specs.Held.{kept}
 use Rattle.layout.specs.Layout.{heldBy}
 use borrow.Author.Needs.{needs}
