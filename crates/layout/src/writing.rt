@@ -7,13 +7,12 @@ use memory::bytes::put_number;
 use state::State;
 ghost use mathlib.Core.Path.{_≡_};
 ghost use mathlib.Core.List.{_++_};
-ghost use Prim.Native.Nat.{_+_, _<_, _≤_};
-ghost use mathlib.Core.Bool.{false};
-ghost use lib.ListN.{length, getD};
+ghost use Prim.Native.Nat.{_+_, _≤_};
+ghost use lib.ListN.{length};
 ghost use lib.Seq.{sets};
 ghost use Rattle.memory.specs.Bytes.{bytes};
 ghost use Rattle.state.specs.Held.{heldOf};
-ghost use Rattle.state.specs.Formed.{registersOf};
+ghost use Rattle.state.specs.Registers.{registers};
 ghost use Rattle.layout.specs.Layout.{HEADER_BYTES, STATE_BYTES, markOf, recordBytes, records, stateBytes, written};
 ghost use Rattle.layout.specs.Numbers.{numbersOf};
 
@@ -48,16 +47,6 @@ fn record_of(waits: bool, v: u64, bound: u8) -> Record
     }
 }
 
-fn record_in(s: State, i: usize) -> Record
-    requires { ⌜ i < 16 ⌝ }
-    ensures { λ r. ⌜ numbersOf r ≡ recordBytes (heldOf (getD (s .accumulated) i false) (getD (s .regs) i 0)) (getD (s .bounds) i 0) ⌝ }
-{
-    let regs = s.regs;
-    let accumulated = s.accumulated;
-    let bounds = s.bounds;
-    record_of(accumulated[i], regs[i], bounds[i])
-}
-
 // The mark and its zeros are one number too.
 fn put_header(into: &mut [u8], pc: u64, mark: u64)
     ensures { λ _. ⌜ now (into .exit) ≡ sets (now (into .entry)) 0 (bytes 8 pc ++ bytes 8 mark) ⌝ }
@@ -75,13 +64,18 @@ pub(crate) fn put_three(into: &mut [u8], at: usize, a: u64, b: u64, c: u64)
     put_number(into, at + 16, 8, c);
 }
 
-fn put_records(bytes: &mut [u8], s: State)
+fn put_records<'a>(
+    bytes: &mut [u8],
+    regs: &'a [u64; 16],
+    accumulated: &'a [bool; 16],
+    bounds: &'a [u8; 16],
+)
     requires { ⌜ length (now bytes) ≡ STATE_BYTES ⌝ }
-    ensures { λ _. ⌜ now (bytes .exit) ≡ sets (now (bytes .entry)) HEADER_BYTES (records 16 0 (registersOf s)) ⌝ }
+    ensures { λ _. ⌜ now (bytes .exit) ≡ sets (now (bytes .entry)) HEADER_BYTES (records 16 0 (registers (now (regs .entry)) (now (accumulated .entry)) (now (bounds .entry)))) ⌝ }
 {
     let mut i: usize = 0;
     while i < 16 {
-        let r = record_in(s, i);
+        let r = record_of(accumulated[i], regs[i], bounds[i]);
         put_three(
             bytes,
             HEADER_BYTES + RECORD_BYTES * i,
@@ -101,5 +95,8 @@ pub fn write_state(bytes: &mut [u8], s: State)
         return;
     }
     put_header(bytes, s.pc, mark_of(s.halted));
-    put_records(bytes, s);
+    let regs = s.regs;
+    let accumulated = s.accumulated;
+    let bounds = s.bounds;
+    put_records(bytes, &regs, &accumulated, &bounds);
 }

@@ -5,25 +5,38 @@ use lib.ListN.{length}
 use borrow.Author.Needs.{needs}
 use native.Mathlib.Omega.{arith}
 use mathlib.Core.Path.{_≡_, refl, sym, _∙_}
-use Rattle.state.specs.Formed.{registersOf}
+use denote.Ref.{now}
+use Rattle.state.specs.Registers.{registers}
 use Rattle.layout.proofs.Stored.{records-more, records-none}
 use Rattle.layout.specs.Layout.{HEADER_BYTES, recordAt, records}
 use Rattle.layout.proofs.writing.put_records.Statement.{statement}
 use Rattle.layout.proofs.writing.put_records.Tie as tie
 
 abbrev Inv-loop : tie.InvT-loop
-Inv-loop bytes₀ s i₀ bytes i =
+Inv-loop bytes₀ regs accumulated bounds i₀ bytes i =
     (length bytes ≡ length bytes₀) × (i ≤ 16)
-    × (sets bytes (recordAt i) (records (16 - i) i (registersOf s)) ≡ sets bytes₀ HEADER_BYTES (records 16 0 (registersOf s)))
+    × (sets bytes (recordAt i) (records (16 - i) i (registers regs accumulated bounds)) ≡ sets bytes₀ HEADER_BYTES (records 16 0 (registers regs accumulated bounds)))
 
 abbrev μ-loop : tie.MeasureT-loop
-μ-loop bytes₀ s i₀ bytes i = 16 - i
+μ-loop bytes₀ regs accumulated bounds i₀ bytes i = 16 - i
 
 loop-holds : tie.Need-loop-holds Inv-loop μ-loop
 loop-holds c = (refl, omega arith, refl)
 
-record-in-requires : tie.Need-record-in-requires Inv-loop μ-loop
-record-in-requires c κs = search needs
+element-copy-out-record-of : tie.Need-element-copy-out-record-of Inv-loop μ-loop
+element-copy-out-record-of c = search needs
+
+mul-record-of : tie.Need-mul-record-of Inv-loop μ-loop
+mul-record-of c = search needs
+
+element-copy-out-record-of-2 : tie.Need-element-copy-out-record-of-2 Inv-loop μ-loop
+element-copy-out-record-of-2 c = search needs
+
+element-copy-out-record-of-3 : tie.Need-element-copy-out-record-of-3 Inv-loop μ-loop
+element-copy-out-record-of-3 c = search needs
+
+record-of-requires : tie.Need-record-of-requires Inv-loop μ-loop
+record-of-requires c κs = search needs
 
 mul-put-three : tie.Need-mul-put-three Inv-loop μ-loop
 mul-put-three c = search needs
@@ -42,10 +55,11 @@ loop-less c = omega arith
 
 loop-again : tie.Need-loop-again Inv-loop μ-loop
 loop-again c =
-    let l = c .before .before .before .before .before .before .loop in (
+    let a = c .before .before .before .before .before .before .before .before .before .before .before .args in
+    let l = c .before .before .before .before .before .before .before .before .before .loop in (
       omega arith,
       omega arith,
-      rw (c .before .before .put-three .ensures, c .before .before .before .before .record-in .ensures) (sym (records-more (registersOf (c .before .before .before .before .before .before .before .before .args .s)) (l .bytes) (l .i) (omega arith)) ∙ l .inv .2),
+      rw (c .before .before .put-three .ensures, c .before .before .before .before .record-of .ensures) (sym (records-more (registers (now (a .regs)) (now (a .accumulated)) (now (a .bounds))) (l .bytes) (l .i) (omega arith)) ∙ l .inv .2),
     )
 
 same-length : tie.Need-same-length Inv-loop μ-loop
@@ -61,7 +75,11 @@ put-records-spec =
     Inv-loop
     μ-loop
     loop-holds
-    record-in-requires
+    element-copy-out-record-of
+    mul-record-of
+    element-copy-out-record-of-2
+    element-copy-out-record-of-3
+    record-of-requires
     mul-put-three
     add-put-three
     put-three-requires

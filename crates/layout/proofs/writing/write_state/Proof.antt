@@ -22,7 +22,8 @@ same-length c = search needs
 
 returns-2 : tie.Need-returns-2
 returns-2 c =
-    rw (c .before .before .put-records .ensures, c .before .before .before .before .before .before .put-header .ensures, c .before .before .before .before .before .before .before .mark-of .ensures) (state-stored (c .before .before .before .before .before .before .before .before .before .before .before .args .s) _ (c .before .before .before .before .before .before .before .before .before .if1 .left))
+    rw (c .before .before .put-records .ensures, c .before .before .before .before .before .before .before .before .before .before .before .before .put-header .ensures, c .before .before .before .before .before .before .before .before .before .before .before .before .before .mark-of .ensures)
+    (state-stored (c .before .before .before .before .before .before .before .before .before .before .before .before .before .before .before .before .before .args .s) _ (c .before .before .before .before .before .before .before .before .before .before .before .before .before .before .before .if1 .left))
 
 pub write-state-spec : {M : Type 1} → statement M
 write-state-spec =
