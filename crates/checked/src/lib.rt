@@ -4,6 +4,7 @@ use checks::note_at;
 use execute::Check;
 use execute::Mode;
 use execute::Went;
+use pending::full_at;
 use refusal::Refusal;
 use refusal::Stop;
 use run::Ran;
@@ -16,7 +17,6 @@ ghost use lib.Dec.{leb};
 ghost use Rattle.state.specs.Formed.{registersOf};
 ghost use Rattle.execute.specs.World.{worldOf};
 ghost use Rattle.execute.specs.Execute.{admits};
-ghost use Rattle.pending.specs.Pending.{fullAt};
 ghost use Rattle.step.specs.Step.{documentRules, step};
 ghost use Rattle.run.specs.Run.{run};
 ghost use Rattle.checks.specs.Records.{listed};
@@ -59,12 +59,6 @@ fn takes(mode: Mode, s: State, room: usize, count: usize) -> bool
         return false;
     }
     count <= room
-}
-
-fn full_at(room: usize, count: usize) -> bool
-    ensures { λ r. ⌜ r ≡ fullAt room count ⌝ }
-{
-    (room != 0) & (room <= count)
 }
 
 fn nothing() -> Pending
