@@ -18,8 +18,8 @@ use Rattle.words.specs.declared.Decoded.{Decoded}
 use Rattle.words.specs.declared.Decoded.the-variants as D
 use Rattle.execute.specs.World.{World, Stepped}
 use Rattle.execute.specs.Execute.{admits}
-use Rattle.execute.specs.declared.Check.{Check}
-use Rattle.execute.specs.declared.Check.the-variants.{Unneeded, Needed}
+use Rattle.pending.specs.declared.Check.{Check}
+use Rattle.pending.specs.declared.Check.the-variants.{Unneeded, Needed}
 use Rattle.execute.specs.declared.Mode.{Mode}
 use Rattle.execute.specs.declared.Mode.the-variants.{Plain, Deferred}
 use Rattle.pending.specs.Pending.{Lists, listsFit, listing, appended}

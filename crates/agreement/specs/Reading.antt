@@ -8,7 +8,7 @@ use Rattle.state.specs.Registers.{Registers, registers}
 use Rattle.execute.specs.World.{World, world, worldOf, Stepped, stepped}
 use Rattle.pending.specs.Pending.{Lists, lists}
 use Rattle.run.specs.Run.{Answer, answer}
-use Rattle.execute.specs.declared.Check.the-variants.{Unneeded}
+use Rattle.pending.specs.declared.Check.the-variants.{Unneeded}
 use Rattle.layout.specs.Layout.{stateIn}
 use Rattle.host.specs.Call.{Called}
 

@@ -17,8 +17,8 @@ use Rattle.execute.specs.Execute.{admits}
 use Rattle.execute.specs.declared.Mode.{Mode}
 use Rattle.execute.specs.declared.Went.{Went}
 use Rattle.execute.specs.declared.Went.the-variants as W
-use Rattle.execute.specs.declared.Check.{Check}
-use Rattle.execute.specs.declared.Check.the-variants.{Unneeded, Needed}
+use Rattle.pending.specs.declared.Check.{Check}
+use Rattle.pending.specs.declared.Check.the-variants.{Unneeded, Needed}
 use Rattle.pending.specs.Pending.{Lists, listsFit, fullAt, listing}
 use Rattle.step.specs.Step.{documentRules}
 use Rattle.run.specs.Run.{Answer, answer, after, goesOn, stopOf, loop, run}

@@ -7,7 +7,7 @@ use lib.ListN.{length, set}
 use Rattle.state.specs.declared.State.{State}
 use Rattle.execute.specs.World.{World, worldOf}
 use Rattle.execute.specs.declared.Mode.{Mode}
-use Rattle.execute.specs.declared.Check.{Check}
+use Rattle.pending.specs.declared.Check.{Check}
 use Rattle.pending.specs.Pending.{listing}
 use Rattle.step.specs.Step.{Left, left, documentRules, step}
 use Rattle.run.specs.Run.{Answer, answer, after, loop, run}

@@ -1,9 +1,9 @@
 // Step and run over a lent list of records, in both modes. The functions of `run` do the work and give the check back; it is listed here.
 use checks::Pending;
 use checks::note_at;
-use execute::Check;
 use execute::Mode;
 use execute::Went;
+use pending::Check;
 use pending::full_at;
 use refusal::Refusal;
 use refusal::Stop;

@@ -17,7 +17,7 @@ use Rattle.execute.specs.declared.Executed.{Executed}
 use Rattle.execute.specs.declared.Mode.{Mode}
 use Rattle.execute.specs.declared.Mode.the-variants.{Plain, Deferred}
 use Rattle.execute.specs.declared.Went.the-variants as W
-use Rattle.execute.specs.declared.Check.the-variants.{Unneeded}
+use Rattle.pending.specs.declared.Check.the-variants.{Unneeded}
 
 -- the instruction on whole values, which it reads from the registers R and writes there
 abbrev pub wholly : Bool → Notes → Instruction → World → Registers → Stepped

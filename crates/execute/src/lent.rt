@@ -1,7 +1,6 @@
 // One instruction, taken apart, over lent registers and memory, without any test of them: what a run executes. What it does is
 // decided before anything changes.
 use crate::Advance;
-use crate::Check;
 use crate::Mode;
 use crate::Went;
 use deferred::sources;
@@ -10,6 +9,7 @@ use effect::Goes;
 use effect::Outcome;
 use effect::Stores;
 use instruction::Parts;
+use pending::Check;
 use refusal::Refusal;
 use state::registers;
 ghost use mathlib.Core.Path.{_≡_};
@@ -23,7 +23,7 @@ ghost use Rattle.deferred.specs.Limbs.{limbed};
 ghost use Rattle.execute.specs.Modes.{limbsIn, settle};
 ghost use Rattle.execute.specs.Execute.{execute};
 ghost use Rattle.execute.specs.declared.Went.the-variants as W;
-ghost use Rattle.execute.specs.declared.Check.the-variants.{Unneeded};
+ghost use Rattle.pending.specs.declared.Check.the-variants.{Unneeded};
 
 fn went_of(goes: Goes) -> Went
     ensures { λ r. ⌜ r ≡ wentOf goes ⌝ }

@@ -1,6 +1,7 @@
 // One instruction, in the plain mode and in the deferred one.
 use instruction::Instruction;
 use instruction::Parts;
+use pending::Check;
 use refusal::Refusal;
 use state::State;
 use state::formed;
@@ -15,7 +16,7 @@ ghost use Rattle.words.specs.Words.{fitsOf};
 ghost use Rattle.execute.specs.World.{worldOf};
 ghost use Rattle.execute.specs.Execute.{execute, admits, executeOne, executed};
 ghost use Rattle.execute.specs.declared.Went.the-variants.{Refused};
-ghost use Rattle.execute.specs.declared.Check.the-variants.{Unneeded};
+ghost use Rattle.pending.specs.declared.Check.the-variants.{Unneeded};
 
 pub mod lent; // lent.rt: over lent registers and memory, as a run executes it
 
@@ -29,12 +30,6 @@ pub enum Went {
     Ebreak,
     Ecall,
     Refused(Refusal),
-}
-
-// The check that a step asks for, of its result.
-pub enum Check {
-    Unneeded,
-    Needed { value: u64, bound: u8 },
 }
 
 // What a step leaves, beside the registers and the memory, which are lent to it.

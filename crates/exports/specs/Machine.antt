@@ -6,8 +6,8 @@ use Rattle.refusal.specs.declared.Stop.{Stop}
 use Rattle.execute.specs.World.{World, Stepped}
 use Rattle.execute.specs.declared.Went.{Went}
 use Rattle.execute.specs.declared.Went.the-variants as W
-use Rattle.execute.specs.declared.Check.{Check}
-use Rattle.execute.specs.declared.Check.the-variants.{Unneeded, Needed}
+use Rattle.pending.specs.declared.Check.{Check}
+use Rattle.pending.specs.declared.Check.the-variants.{Unneeded, Needed}
 use Rattle.pending.specs.Pending.{Lists}
 use Rattle.step.specs.Step.{Left}
 use Rattle.run.specs.Run.{Answer}

@@ -1,12 +1,12 @@
 // One given instruction, one step, and a run with the three lists, over the bytes of a state: `execute` and `run`.
 // Mode 0 is plain, any other deferred.
 use crate::coding;
-use execute::Check;
 use execute::Mode;
 use execute::Went;
 use layout::answer::write_answer;
 use layout::reading::read_state;
 use layout::writing::write_state;
+use pending::Check;
 use refusal::Stop;
 use run::Ran;
 use state::State;

@@ -5,8 +5,8 @@ use mathlib.Core.List.{List}
 use lib.ListN.{length, getD, set}
 use lib.Dec.{ltb, leb, eqb}
 use Rattle.refusal.specs.Stops.{refusalOf}
-use Rattle.execute.specs.declared.Check.{Check}
-use Rattle.execute.specs.declared.Check.the-variants.{Unneeded, Needed}
+use Rattle.pending.specs.declared.Check.{Check}
+use Rattle.pending.specs.declared.Check.the-variants.{Unneeded, Needed}
 use Rattle.pending.specs.declared.Appended.{Appended}
 use Rattle.pending.specs.declared.Appended.the-variants as A
 use Rattle.pending.specs.declared.Entry.{Entry}

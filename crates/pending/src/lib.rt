@@ -1,11 +1,16 @@
 // Pending checks, in three lent lists of numbers and a count: values, the widths that were noted of them, and pcs.
-use execute::Check;
 use refusal::Refusal;
 ghost use mathlib.Core.Path.{_≡_};
 ghost use mathlib.Core.Bool.{_&&_};
 ghost use lib.Dec.{eqb, leb};
 ghost use lib.ListN.{set};
 ghost use Rattle.pending.specs.Pending.{lists, fullAt, appended, listing, appendAnswer, appendLists, emptied, entryAt};
+
+// The check that a step asks for, of its result.
+pub enum Check {
+    Unneeded,
+    Needed { value: u64, bound: u8 },
+}
 
 pub enum Appended {
     At(usize),

@@ -6,19 +6,19 @@ use Rattle.value.proofs as value
 use Rattle.bound.proofs as bound
 use Rattle.refusal.proofs as refusal
 use Rattle.memory.proofs as memory
+use Rattle.pending.proofs as pending
 use Rattle.opcode.proofs as opcode
 use Rattle.forms.proofs as forms
 use Rattle.instruction.proofs as instruction
 use Rattle.words.proofs as words
 use Rattle.state.proofs as state
 use Rattle.normalize.proofs as normalize
+use Rattle.layout.proofs as layout
 use Rattle.effect.proofs as effect
 use Rattle.deferred.proofs as deferred
 use Rattle.execute.proofs as execute
-use Rattle.pending.proofs as pending
 use Rattle.step.proofs as step
 use Rattle.run.proofs as run
-use Rattle.layout.proofs as layout
 use Rattle.host.proofs as host
 use Rattle.singles.proofs as singles
 use Rattle.exports.proofs as exports
@@ -244,6 +244,25 @@ memory·store κs a x y = two (λ r m. r & m & x .1 .1)
 pub memory·fetch : Determined memory.fetch.ended memory.fetch.Reads.Learnt
 memory·fetch κs a x y = one (λ r. r & x .1)
 
+-- ---- pending
+pub pending·lists-fit : Determined pending.lists_fit.ended pending.lists_fit.Reads.Learnt
+pending·lists-fit κs a x y = one (λ r. r & x .1)
+
+pub pending·full-at : Determined pending.full_at.ended pending.full_at.Reads.Learnt
+pending·full-at κs a x y = one (λ r. r & x .1)
+
+pub pending·list : Determined pending.list.ended pending.list.Reads.Learnt
+pending·list κs a x y = one (λ (l : Lists). l .count & l .values & l .bounds & l .pcs & x .1 .1 .1 .1)
+
+pub pending·append : Determined pending.append.ended pending.append.Reads.Learnt
+pending·append κs a x y = two (λ r (l : Lists). r & l .values & l .bounds & l .pcs & x .1 .1 .1 .1)
+
+pub pending·empty : Determined pending.empty.ended pending.empty.Reads.Learnt
+pending·empty κs a x y = one (λ (l : Lists). l .count & l .values & l .bounds & l .pcs & x .1 .1 .1 .1)
+
+pub pending·read : Determined pending.read.ended pending.read.Reads.Learnt
+pending·read κs a x y = one (λ r. r & x .1)
+
 -- ---- opcode
 pub opcode·number : Determined opcode.number.ended opcode.number.Reads.Learnt
 opcode·number κs a x y = one (λ r. r & x .1)
@@ -337,6 +356,22 @@ normalize·normalize-and-write κs a x y = one (λ r. r & x .1)
 pub normalize·normalize-if-near-overflow : Determined normalize.normalize_if_near_overflow.ended normalize.normalize_if_near_overflow.Reads.Learnt
 normalize·normalize-if-near-overflow κs a x y = one (λ r. r & x .1)
 
+-- ---- layout
+pub layout·answer·write-answer : Determined layout.answer.write_answer.ended layout.answer.write_answer.Reads.Learnt
+layout·answer·write-answer κs a x y = one (λ m. tt & m & x .1 .1)
+
+pub layout·writing·write-state : Determined layout.writing.write_state.ended layout.writing.write_state.Reads.Learnt
+layout·writing·write-state κs a x y = one (λ m. tt & m & x .1 .1)
+
+pub layout·reading·read-state : Determined layout.reading.read_state.ended layout.reading.read_state.Reads.Learnt
+layout·reading·read-state κs a x y = one (λ r. r & x .1)
+
+pub layout·laid·well-laid : Determined layout.laid.well_laid.ended layout.laid.well_laid.Reads.Learnt
+layout·laid·well-laid κs a x y = one (λ r. r & x .1)
+
+pub layout·laid·is-admissible : Determined layout.laid.is_admissible.ended layout.laid.is_admissible.Reads.Learnt
+layout·laid·is-admissible κs a x y = one (λ r. r & x .1)
+
 -- ---- effect
 pub effect·effect-of : Determined effect.effect_of.ended effect.effect_of.Reads.Learnt
 effect·effect-of κs a x y = one (λ r. r & x .1)
@@ -360,25 +395,6 @@ execute·admits κs a x y = one (λ r. r & x .1)
 
 pub execute·execute : Determined execute.execute.ended execute.execute.Reads.Learnt
 execute·execute κs a x y = one (λ (s : Stepped). executedOf s & tt & tt & tt & s .world .memory & tt)
-
--- ---- pending
-pub pending·lists-fit : Determined pending.lists_fit.ended pending.lists_fit.Reads.Learnt
-pending·lists-fit κs a x y = one (λ r. r & x .1)
-
-pub pending·full-at : Determined pending.full_at.ended pending.full_at.Reads.Learnt
-pending·full-at κs a x y = one (λ r. r & x .1)
-
-pub pending·list : Determined pending.list.ended pending.list.Reads.Learnt
-pending·list κs a x y = one (λ (l : Lists). l .count & l .values & l .bounds & l .pcs & x .1 .1 .1 .1)
-
-pub pending·append : Determined pending.append.ended pending.append.Reads.Learnt
-pending·append κs a x y = two (λ r (l : Lists). r & l .values & l .bounds & l .pcs & x .1 .1 .1 .1)
-
-pub pending·empty : Determined pending.empty.ended pending.empty.Reads.Learnt
-pending·empty κs a x y = one (λ (l : Lists). l .count & l .values & l .bounds & l .pcs & x .1 .1 .1 .1)
-
-pub pending·read : Determined pending.read.ended pending.read.Reads.Learnt
-pending·read κs a x y = one (λ r. r & x .1)
 
 -- ---- step
 pub step·step-in : Determined step.step_in.ended step.step_in.Reads.Learnt
@@ -405,22 +421,6 @@ run·stop-of κs a x y = one (λ r. r & x .1)
 
 pub run·leg·advance : Determined run.leg.advance.ended run.leg.advance.Reads.Learnt
 run·leg·advance κs a x y = one (λ (l : Leg). goneOf l & tt & tt & tt & tt & l .world .memory & tt)
-
--- ---- layout
-pub layout·answer·write-answer : Determined layout.answer.write_answer.ended layout.answer.write_answer.Reads.Learnt
-layout·answer·write-answer κs a x y = one (λ m. tt & m & x .1 .1)
-
-pub layout·writing·write-state : Determined layout.writing.write_state.ended layout.writing.write_state.Reads.Learnt
-layout·writing·write-state κs a x y = one (λ m. tt & m & x .1 .1)
-
-pub layout·reading·read-state : Determined layout.reading.read_state.ended layout.reading.read_state.Reads.Learnt
-layout·reading·read-state κs a x y = one (λ r. r & x .1)
-
-pub layout·laid·well-laid : Determined layout.laid.well_laid.ended layout.laid.well_laid.Reads.Learnt
-layout·laid·well-laid κs a x y = one (λ r. r & x .1)
-
-pub layout·laid·is-admissible : Determined layout.laid.is_admissible.ended layout.laid.is_admissible.Reads.Learnt
-layout·laid·is-admissible κs a x y = one (λ r. r & x .1)
 
 -- ---- host
 pub host·zkir-run : Determined host.zkir_run.ended host.zkir_run.Reads.Learnt

@@ -1,9 +1,9 @@
 // A leg of a run, by value: the check that ends it is given back, for a caller that lists in another form.
 use crate::counted;
 use crate::goes_on;
-use execute::Check;
 use execute::Mode;
 use execute::Went;
+use pending::Check;
 use state::State;
 use step::step_in;
 ghost use mathlib.Core.Path.{_≡_};

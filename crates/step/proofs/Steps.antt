@@ -15,7 +15,7 @@ use Rattle.execute.specs.Execute.{execute, admits}
 use Rattle.execute.specs.declared.Mode.{Mode}
 use Rattle.execute.specs.declared.Went.{Went}
 use Rattle.execute.specs.declared.Went.the-variants as W
-use Rattle.execute.specs.declared.Check.{Check}
+use Rattle.pending.specs.declared.Check.{Check}
 use Rattle.pending.specs.Pending.{Lists, listsFit, full, listing}
 use Rattle.step.specs.Step.{Rules, obey, decodedAt, fetched, left, stepIn, stepOf, step}
 

@@ -1,10 +1,10 @@
 // A single step: the word at the pc is fetched, decoded and executed, and the check that it asks for is listed.
 use execute::Advance;
-use execute::Check;
 use execute::Mode;
 use execute::Went;
 use execute::lent;
 use memory::Fetched;
+use pending::Check;
 use refusal::Refusal;
 use state::State;
 use words::Taken;
