@@ -1,5 +1,5 @@
-// With ZKIR_EXPORTS naming a static library of the crate `exports`, it is linked, and the functions that the host call does
-// not reach are compared too; a relative path counts from the repository's root.
+// With ZKIR_EXPORTS naming static libraries of the crates `singles` and `exports`, a colon between them, they are linked, and
+// the functions that the host call does not reach are compared too; a relative path counts from the repository's root.
 
 use std::env;
 use std::path::PathBuf;
@@ -9,9 +9,11 @@ fn main() {
     println!("cargo:rustc-check-cfg=cfg(exports)");
     let Some(named) = env::var_os("ZKIR_EXPORTS") else { return };
     let root = PathBuf::from(env::var_os("CARGO_MANIFEST_DIR").expect("cargo sets CARGO_MANIFEST_DIR")).join("..");
-    let archive = root.join(named);
-    assert!(archive.is_file(), "ZKIR_EXPORTS: no file {}", archive.display());
-    println!("cargo:rerun-if-changed={}", archive.display());
-    println!("cargo:rustc-link-arg={}", archive.display());
+    for path in env::split_paths(&named) {
+        let archive = root.join(path);
+        assert!(archive.is_file(), "ZKIR_EXPORTS: no file {}", archive.display());
+        println!("cargo:rerun-if-changed={}", archive.display());
+        println!("cargo:rustc-link-arg={}", archive.display());
+    }
     println!("cargo:rustc-cfg=exports");
 }

@@ -1,4 +1,4 @@
-//! The functions that an archive of the crate `exports` has beside `zkir_run`, as that crate declares them. All are
+//! The functions that archives of the crates `singles` and `exports` have beside `zkir_run`, as those declare them. All are
 //! total: any numbers and any slices are theirs to answer, so that calling them is safe.
 
 use crate::inside::{Inside, Lent, Limbs, Lists};
@@ -132,7 +132,7 @@ pub fn decode(answer: &mut [u8], word: u32) {
     unsafe { lent::oracle_decode(answer.as_mut_ptr(), answer.len(), word) }
 }
 
-/// The archive that the build was given in ZKIR_EXPORTS.
+/// The archives that the build was given in ZKIR_EXPORTS.
 pub struct Archive;
 
 /// Calls a function of `lent` with slices, then with numbers.

@@ -13,12 +13,12 @@ use Rattle.effect.specs.Effects.{seen, writing, effect}
 use Rattle.effect.specs.declared.Outcome.{Outcome}
 use Rattle.effect.specs.declared.Outcome.the-variants.{Does, Refuses}
 use Rattle.execute.specs.World.{World, Stepped, done}
-use Rattle.execute.specs.Settle.{settle}
-use Rattle.execute.specs.Deferred.{sumOf, fits, sumInto, added, addedImm, covers, subtracted, limbs, limbsIn}
+use Rattle.deferred.specs.Limbs.{sumOf, fits, sumInto, added, addedImm, covers, subtracted, limbs}
+use Rattle.execute.specs.Modes.{limbsIn, settle}
 use Rattle.execute.specs.Execute.{wholly, onward, finish, execute}
 use Rattle.execute.specs.declared.Mode.{Mode}
 use Rattle.execute.specs.declared.Mode.the-variants.{Plain, Deferred}
-use Rattle.execute.proofs.Waiting.{fits-true, covers-true}
+use Rattle.deferred.proofs.Waiting.{fits-true, covers-true}
 use Rattle.instruction.specs.declared.Instruction.{Instruction}
 use Rattle.instruction.specs.declared.Instruction.the-variants.{Add, Sub, Addi}
 use Rattle.agreement.specs.Reading.{readAll, readWorld, unchecked, readStep, Sized}

@@ -11,10 +11,10 @@ use Rattle.state.specs.Registers.{Registers, registers, holds, noted}
 use Rattle.state.specs.Formed.{wellFormed, registersOf}
 use Rattle.state.specs.declared.State.{State}
 use Rattle.execute.specs.World.{World, world, worldOf}
-use Rattle.host.specs.Layout.{markOf, headerBytes, kindOf, firstOf, secondOf, recordBytes, records, stateBytes, heldBy, table, stateIn}
+use Rattle.layout.specs.Layout.{markOf, headerBytes, kindOf, firstOf, secondOf, recordBytes, records, stateBytes, heldBy, table, stateIn}
 use Rattle.host.specs.Call.{stateOf}
-use Rattle.host.proofs.Numbers.{number-bytes}
-use Rattle.host.proofs.Contents.{held-packed}
+use Rattle.layout.proofs.Numbers.{number-bytes}
+use Rattle.layout.proofs.Contents.{held-packed}
 use Rattle.agreement.specs.Reading.{readValues, noMarks, readAll, readWorld}
 use Rattle.agreement.proofs.Formed.{formed}
 use Rattle.agreement.proofs.Reading.{read-held}

@@ -12,10 +12,10 @@ use Rattle.execute.specs.World.{World, worldOf}
 use Rattle.execute.specs.Execute.{admits}
 use Rattle.execute.specs.declared.Mode.{Mode}
 use Rattle.execute.specs.declared.Mode.the-variants.{Plain, Deferred}
-use Rattle.run.specs.Step.{documentRules}
+use Rattle.step.specs.Step.{documentRules}
 use Rattle.run.specs.Run.{Answer, run}
-use Rattle.host.specs.Layout.{table, stateIn, wellLaid}
-use Rattle.host.specs.Answer.{ANSWER_BYTES, answerBytes}
+use Rattle.layout.specs.Layout.{table, stateIn, wellLaid}
+use Rattle.layout.specs.Answer.{ANSWER_BYTES, answerBytes}
 use Rattle.host.specs.Call.{modeOf, taken, served, ranOn, callOf}
 use Rattle.agreement.specs.Reading.{readAnswer, ReadCall, readCall, Sized, noLists}
 use Rattle.agreement.specs.Statements.{CallsAgree, RefusedCallsAgree}

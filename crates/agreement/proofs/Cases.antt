@@ -4,7 +4,7 @@ use mathlib.Core.Path.{_≡_, refl}
 use mathlib.Core.Bool.{Bool, true, false, cond}
 use Rattle.state.specs.Registers.{Registers, holds}
 use Rattle.effect.specs.Notes.{Notes}
-use Rattle.execute.specs.Deferred.{Limbed, limbed, added, addedImm, covers, subtracted, limbs}
+use Rattle.deferred.specs.Limbs.{Limbed, limbed, added, addedImm, covers, subtracted, limbs}
 use Rattle.instruction.specs.declared.Instruction.{Instruction}
 use Rattle.instruction.specs.declared.Instruction.the-variants.{Add, Sub, Addi, Mul, Divide, Op, OpImm, Move, Load, Store, Branch, Jal, Jalr, Ecall, Ebreak}
 

@@ -8,8 +8,8 @@ use denote.Triple.Entry.{Args}
 use borrow.Fn.Kinds.{GoodsP}
 use Rattle.execute.specs.World.{World}
 use Rattle.execute.specs.declared.Mode.the-variants.{Plain, Deferred}
-use Rattle.run.specs.Pending.{Lists}
-use Rattle.run.specs.Step.{documentRules}
+use Rattle.pending.specs.Pending.{Lists}
+use Rattle.step.specs.Step.{documentRules}
 use Rattle.run.specs.Run.{run}
 use Rattle.run.proofs.run_deferred
 use Rattle.host.specs.Call.{Called, callOf}

@@ -13,18 +13,19 @@ use Rattle.effect.specs.Effects.{Seen, effect}
 use Rattle.effect.specs.declared.Effect.{Effect}
 use Rattle.effect.specs.declared.Outcome.{Outcome}
 use Rattle.effect.specs.declared.Outcome.the-variants.{Does, Refuses}
-use Rattle.instruction.specs.Words.{decodeIn}
-use Rattle.instruction.specs.declared.Decoded.{Decoded}
-use Rattle.instruction.specs.declared.Decoded.the-variants as D
+use Rattle.words.specs.Words.{decodeIn}
+use Rattle.words.specs.declared.Decoded.{Decoded}
+use Rattle.words.specs.declared.Decoded.the-variants as D
 use Rattle.instruction.specs.declared.Instruction.{Instruction}
 use Rattle.execute.specs.World.{World, Stepped, refused, does, done}
-use Rattle.execute.specs.Settle.{sources, normaliseEach, settle}
-use Rattle.execute.specs.Deferred.{sumInto, subtracted, limbsIn}
+use Rattle.deferred.specs.Limbs.{sumInto, subtracted}
+use Rattle.deferred.specs.Sources.{sources, normaliseEach}
+use Rattle.execute.specs.Modes.{limbsIn, settle}
 use Rattle.execute.specs.Execute.{onward, finish, execute, admits}
 use Rattle.execute.specs.declared.Mode.{Mode}
 use Rattle.execute.specs.declared.Mode.the-variants.{Plain, Deferred}
-use Rattle.run.specs.Pending.{Lists, listsFit}
-use Rattle.run.specs.Step.{Rules, obey, fetched, Left, left, stepOf, step}
+use Rattle.pending.specs.Pending.{Lists, listsFit}
+use Rattle.step.specs.Step.{Rules, obey, fetched, Left, left, stepOf, step}
 use Rattle.run.specs.Run.{Answer, answer, after, goesOn, following, loop, run}
 use Rattle.agreement.proofs.Cases.{cond-case, limb-cases}
 

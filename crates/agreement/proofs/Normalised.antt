@@ -9,9 +9,9 @@ use native.Mathlib.Omega.{arith}
 use Rattle.state.specs.Held.{Held, Whole, Limbs, valueOf, settled, waits}
 use Rattle.state.specs.Registers.{Registers, holds, normalise}
 use Rattle.state.proofs.Files.{normalise-set}
-use Rattle.state.proofs.Cases.{waits-held}
+use Rattle.state.proofs.Normal.{waits-held}
 use Rattle.state.proofs.Normal.{value-and-carry, settled-whole, whole-limbs, others-stay, bounds-stay}
-use Rattle.execute.proofs.Seeing.{value-stays}
+use Rattle.deferred.proofs.Seeing.{value-stays}
 use Rattle.agreement.specs.Keeping.{Formed}
 use Rattle.agreement.specs.Statements.{NormalisingIsExact}
 use Rattle.agreement.proofs.Formed.{formed}

@@ -10,7 +10,8 @@ use Rattle.state.specs.Registers.{Registers, holds, noted, place, put, normalis
 use Rattle.state.proofs.Files.{kept-settled, waits-settled, set-same}
 use Rattle.state.proofs.Normal.{held-kept}
 use Rattle.effect.specs.Effects.{seen}
-use Rattle.execute.specs.Settle.{sources, normaliseEach, settle}
+use Rattle.deferred.specs.Sources.{sources, normaliseEach}
+use Rattle.execute.specs.Modes.{settle}
 use Rattle.execute.specs.declared.Mode.{Mode}
 use Rattle.execute.specs.declared.Mode.the-variants.{Plain, Deferred}
 use Rattle.instruction.specs.declared.Instruction.{Instruction}

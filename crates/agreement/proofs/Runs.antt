@@ -13,17 +13,17 @@ use Rattle.state.specs.Held.{valueOf}
 use Rattle.state.specs.Registers.{Registers, holds}
 use Rattle.state.specs.Formed.{wellFormed, allWhole}
 use Rattle.state.proofs.Normal.{whole-limbs}
-use Rattle.instruction.specs.Words.{decodeIn}
-use Rattle.instruction.specs.declared.Decoded.{Decoded}
-use Rattle.instruction.specs.declared.Decoded.the-variants as D
+use Rattle.words.specs.Words.{decodeIn}
+use Rattle.words.specs.declared.Decoded.{Decoded}
+use Rattle.words.specs.declared.Decoded.the-variants as D
 use Rattle.execute.specs.World.{World, Stepped}
 use Rattle.execute.specs.Execute.{admits}
-use Rattle.execute.specs.declared.Check.{Check}
-use Rattle.execute.specs.declared.Check.the-variants.{Unneeded, Needed}
+use Rattle.pending.specs.declared.Check.{Check}
+use Rattle.pending.specs.declared.Check.the-variants.{Unneeded, Needed}
 use Rattle.execute.specs.declared.Mode.{Mode}
 use Rattle.execute.specs.declared.Mode.the-variants.{Plain, Deferred}
-use Rattle.run.specs.Pending.{Lists, listsFit, listing, appended}
-use Rattle.run.specs.Step.{Rules, obey, fetched, Left, left, stepOf}
+use Rattle.pending.specs.Pending.{Lists, listsFit, listing, appended}
+use Rattle.step.specs.Step.{Rules, obey, fetched, Left, left, stepOf}
 use Rattle.run.specs.Run.{Answer, answer, after, goesOn, following, loop, run}
 use Rattle.agreement.specs.Reading.{noMarks, readAll, readWorld, unchecked, readStep, Sized, noLists, readAnswer}
 use Rattle.agreement.specs.Keeping.{Formed}

@@ -7,7 +7,7 @@ use Rattle.state.specs.Registers.{Registers, place, put, normalise}
 use Rattle.effect.specs.Notes.{Notes}
 use Rattle.instruction.specs.declared.Instruction.{Instruction}
 use Rattle.execute.specs.World.{World}
-use Rattle.execute.specs.Deferred.{sumOf, fits, sumInto}
+use Rattle.deferred.specs.Limbs.{sumOf, fits, sumInto}
 use Rattle.execute.specs.Execute.{execute}
 use Rattle.execute.specs.declared.Mode.{Mode}
 use Rattle.agreement.specs.Reading.{Sized}

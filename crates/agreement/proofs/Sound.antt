@@ -8,10 +8,10 @@ use Rattle.state.specs.Registers.{Registers}
 use Rattle.state.specs.Formed.{wellFormed}
 use Rattle.effect.specs.Notes.{Notes}
 use Rattle.execute.specs.World.{World}
-use Rattle.execute.specs.Deferred.{sumOf, fits, sumInto, subtracted}
+use Rattle.deferred.specs.Limbs.{sumOf, fits, sumInto, subtracted}
 use Rattle.execute.specs.Execute.{execute}
 use Rattle.execute.specs.declared.Mode.{Mode}
-use Rattle.execute.proofs.Waiting.{fits-true}
+use Rattle.deferred.proofs.Waiting.{fits-true}
 use Rattle.instruction.specs.declared.Instruction.{Instruction}
 use Rattle.agreement.specs.Keeping.{Capped, Formed}
 use Rattle.agreement.specs.Statements.{InstructionsKeep, StepsKeep, RunsKeep}

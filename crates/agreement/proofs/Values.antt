@@ -5,7 +5,7 @@ use native.Mathlib.Omega.{arith}
 use Rattle.value.specs.Forty.{add40, sub40}
 use Rattle.state.specs.Held.{Held, Whole, Limbs, lowOf, highOf, valueOf, settled}
 use Rattle.state.proofs.Normal.{settled-whole, whole-limbs}
-use Rattle.execute.specs.Deferred.{sumOf}
+use Rattle.deferred.specs.Limbs.{sumOf}
 
 limbs-value : (h : Held) → (lowOf h + 2 ^ 20 * highOf h) % 2 ^ 40 ≡ valueOf h % 2 ^ 40
 unfolding lowOf highOf valueOf

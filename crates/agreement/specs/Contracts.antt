@@ -6,7 +6,7 @@ use denote.Ref.{now}
 use denote.Triple.Entry.{Args, Res}
 use denote.Triple.Clauses.{Ended, Lasts, AtExit, atExit}
 use Rattle.execute.specs.World.{World, worldOf}
-use Rattle.run.specs.Pending.{Lists, lists}
+use Rattle.pending.specs.Pending.{Lists, lists}
 use Rattle.run.specs.Run.{Answer, ran}
 use Rattle.host.specs.Call.{Called, called}
 use Rattle.run.proofs.run_plain

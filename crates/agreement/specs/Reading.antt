@@ -6,10 +6,10 @@ use lib.ListN.{length}
 use Rattle.state.specs.Held.{valueOf, heldOf}
 use Rattle.state.specs.Registers.{Registers, registers}
 use Rattle.execute.specs.World.{World, world, worldOf, Stepped, stepped}
-use Rattle.run.specs.Pending.{Lists, lists}
+use Rattle.pending.specs.Pending.{Lists, lists}
 use Rattle.run.specs.Run.{Answer, answer}
-use Rattle.execute.specs.declared.Check.the-variants.{Unneeded}
-use Rattle.host.specs.Layout.{stateIn}
+use Rattle.pending.specs.declared.Check.the-variants.{Unneeded}
+use Rattle.layout.specs.Layout.{stateIn}
 use Rattle.host.specs.Call.{Called}
 
 -- each register's value; one that has no mark is whole

@@ -15,12 +15,12 @@ use Rattle.execute.specs.World.{World}
 use Rattle.execute.specs.Execute.{execute, admits}
 use Rattle.execute.specs.declared.Mode.{Mode}
 use Rattle.execute.specs.declared.Mode.the-variants.{Plain, Deferred}
-use Rattle.run.specs.Pending.{Lists}
-use Rattle.run.specs.Step.{Rules, step}
+use Rattle.pending.specs.Pending.{Lists}
+use Rattle.step.specs.Step.{Rules, step}
 use Rattle.run.specs.Run.{run}
 use Rattle.run.proofs.run_plain
 use Rattle.run.proofs.run_deferred
-use Rattle.host.specs.Layout.{stateIn}
+use Rattle.layout.specs.Layout.{stateIn}
 use Rattle.host.specs.Call.{taken, callOf}
 use Rattle.host.proofs.zkir_run
 use Rattle.agreement.specs.Reading.{readWorld, unchecked, readStep, readAnswer, readCall, noLists, Sized}

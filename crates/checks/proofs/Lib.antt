@@ -1,4 +1,3 @@
 pub mod Listed
 pub mod Places
-pub mod Turning
 pub mod Noting

@@ -12,9 +12,9 @@ use lib.ListN.{length, set, getD, drop, length-map, List·getD-map}
 use native.Mathlib.Omega.{arith}
 use lib.Seq.{set-out}
 use borrow.Author.Tests.{lt-ltb, le-ltb, eq-eqb, le-leb, lt-leb, ltb-true, ltb-false, leb-true, leb-false}
-use Rattle.run.specs.Pending.{Lists, lists, listsFit, full, fullAt, appended, entryAt}
-use Rattle.run.specs.declared.pending.Entry.the-variants as E
-use Rattle.run.proofs.Lists.{entry-malformed, entry-beyond, entry-there}
+use Rattle.pending.specs.Pending.{Lists, lists, listsFit, full, fullAt, appended, entryAt}
+use Rattle.pending.specs.declared.Entry.the-variants as E
+use Rattle.pending.proofs.Lists.{entry-malformed, entry-beyond, entry-there}
 use Rattle.checks.specs.Records.{listed}
 use Rattle.checks.specs.declared.Pending.{Pending}
 

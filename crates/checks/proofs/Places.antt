@@ -9,9 +9,9 @@ use lib.Seq.{set-out}
 use native.Mathlib.Omega.{arith}
 use borrow.Author.Tests.{le-leb, lt-leb, eq-eqb, ne-eqb}
 use Rattle.refusal.specs.Stops.{refusalOf}
-use Rattle.run.specs.Pending.{listsFit, full}
-use Rattle.run.specs.declared.pending.Appended.the-variants as A
-use Rattle.run.proofs.Lists.{append-malformed, append-full, append-done}
+use Rattle.pending.specs.Pending.{listsFit, full}
+use Rattle.pending.specs.declared.Appended.the-variants as A
+use Rattle.pending.proofs.Lists.{append-malformed, append-full, append-done}
 use Rattle.checks.specs.Records.{listed, withOne, Fits}
 use Rattle.checks.specs.declared.Pending.{Pending}
 use Rattle.checks.proofs.Listed.{fits-is, room-is, listed-more, listed-same}

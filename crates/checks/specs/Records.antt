@@ -3,8 +3,8 @@ use Prim.Native.Nat.{ℕ}
 use mathlib.Core.Path.{_≡_}
 use mathlib.Core.List.{List, map}
 use lib.ListN.{length, set}
-use Rattle.run.specs.Pending.{Lists, lists, appendAnswer, appendLists}
-use Rattle.run.specs.declared.pending.Appended.{Appended}
+use Rattle.pending.specs.Pending.{Lists, lists, appendAnswer, appendLists}
+use Rattle.pending.specs.declared.Appended.{Appended}
 use Rattle.checks.specs.declared.Pending.{Pending}
 use Rattle.checks.specs.declared.Placed.{Placed}
 

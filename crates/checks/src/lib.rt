@@ -1,15 +1,13 @@
 // Pending checks as one lent slice of records, and how many of them are in use.
+use pending::Appended;
+use pending::Entry;
 use refusal::Refusal;
-use run::pending::Appended;
-use run::pending::Entry;
 ghost use mathlib.Core.Path.{_≡_};
 ghost use mathlib.Core.Bool.{_||_};
 ghost use lib.Dec.{leb, ltb};
 ghost use lib.ListN.{set};
-ghost use Rattle.run.specs.Pending.{emptied, entryAt};
+ghost use Rattle.pending.specs.Pending.{emptied, entryAt};
 ghost use Rattle.checks.specs.Records.{listed, answerTo, withOne, Fits};
-
-pub mod machine; // machine.rt: step and run over such a list
 
 #[repr(C)]
 pub struct Pending {
@@ -25,7 +23,7 @@ struct Placed {
 }
 
 // The record at a place is overwritten, where there is one.
-pub(crate) fn note_at(list: &mut [Pending], at: usize, p: Pending)
+pub fn note_at(list: &mut [Pending], at: usize, p: Pending)
     ensures { λ _. ⌜ now (list .exit) ≡ set (now (list .entry)) at p ⌝ }
 {
     if list.len() <= at {

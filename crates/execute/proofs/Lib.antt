@@ -1,5 +1,2 @@
-pub mod Seeing
-pub mod Waiting
 pub mod Finish
 pub mod Admitting
-pub mod Forms

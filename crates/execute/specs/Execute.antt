@@ -9,15 +9,15 @@ use Rattle.effect.specs.Operations.{plus64}
 use Rattle.effect.specs.Notes.{Notes}
 use Rattle.effect.specs.Effects.{seen, effect}
 use Rattle.execute.specs.World.{World, world, worldOf, Stepped, stepped, refused, done}
-use Rattle.execute.specs.Settle.{settle}
-use Rattle.execute.specs.Deferred.{Limbed, limbsIn}
+use Rattle.deferred.specs.Limbs.{Limbed}
+use Rattle.execute.specs.Modes.{limbsIn, settle}
 use Rattle.instruction.specs.declared.Instruction.{Instruction}
-use Rattle.instruction.specs.Words.{fitsOf}
+use Rattle.words.specs.Words.{fitsOf}
 use Rattle.execute.specs.declared.Executed.{Executed}
 use Rattle.execute.specs.declared.Mode.{Mode}
 use Rattle.execute.specs.declared.Mode.the-variants.{Plain, Deferred}
 use Rattle.execute.specs.declared.Went.the-variants as W
-use Rattle.execute.specs.declared.Check.the-variants.{Unneeded}
+use Rattle.pending.specs.declared.Check.the-variants.{Unneeded}
 
 -- the instruction on whole values, which it reads from the registers R and writes there
 abbrev pub wholly : Bool → Notes → Instruction → World → Registers → Stepped

@@ -1,4 +1,3 @@
 pub mod World
-pub mod Settle
-pub mod Deferred
+pub mod Modes
 pub mod Execute

@@ -18,8 +18,8 @@ use Rattle.effect.specs.declared.Outcome.{Outcome}
 use Rattle.effect.specs.declared.Outcome.the-variants.{Does, Refuses}
 use Rattle.execute.specs.declared.Went.{Went}
 use Rattle.execute.specs.declared.Went.the-variants as W
-use Rattle.execute.specs.declared.Check.{Check}
-use Rattle.execute.specs.declared.Check.the-variants.{Unneeded, Needed}
+use Rattle.pending.specs.declared.Check.{Check}
+use Rattle.pending.specs.declared.Check.the-variants.{Unneeded, Needed}
 use Rattle.execute.specs.declared.Advance.{Advance}
 
 pub record World : Type 0 where

@@ -1,35 +1,29 @@
 // One instruction, taken apart, over lent registers and memory, without any test of them: what a run executes. What it does is
 // decided before anything changes.
 use crate::Advance;
-use crate::Check;
 use crate::Mode;
 use crate::Went;
-use crate::deferred;
+use deferred::sources;
 use effect::Effect;
 use effect::Goes;
 use effect::Outcome;
 use effect::Stores;
 use instruction::Parts;
-use opcode::Form;
-use opcode::Opcode;
+use pending::Check;
 use refusal::Refusal;
 use state::registers;
 ghost use mathlib.Core.Path.{_≡_};
-ghost use mathlib.Core.Bool.{cond, _&&_};
-ghost use lib.Dec.{eqb};
+ghost use mathlib.Core.Bool.{_&&_};
 ghost use Rattle.state.specs.Registers.{registers, Becomes};
 ghost use Rattle.effect.specs.Notes.{documentNotes};
 ghost use Rattle.effect.specs.Operations.{plus64};
-ghost use Rattle.execute.specs.World.{world, advanced, wentOf, marked, keeping, checkOf, does};
-ghost use Rattle.opcode.specs.Opcodes.{opcodeNumber};
+ghost use Rattle.execute.specs.World.{world, advanced, wentOf, marked, keeping, checkOf, does, done};
 ghost use Rattle.instruction.specs.Operands.{joinedOf};
-ghost use Rattle.instruction.specs.declared.Instruction.the-variants.{Ecall};
-ghost use Rattle.execute.specs.Settle.{settle};
-ghost use Rattle.execute.specs.Execute.{wholly, execute};
-ghost use Rattle.execute.specs.Deferred.{limbed, limbsIn};
-ghost use Rattle.execute.specs.declared.Mode.the-variants.{Deferred};
+ghost use Rattle.deferred.specs.Limbs.{limbed};
+ghost use Rattle.execute.specs.Modes.{limbsIn, settle};
+ghost use Rattle.execute.specs.Execute.{execute};
 ghost use Rattle.execute.specs.declared.Went.the-variants as W;
-ghost use Rattle.execute.specs.declared.Check.the-variants.{Unneeded};
+ghost use Rattle.pending.specs.declared.Check.the-variants.{Unneeded};
 
 fn went_of(goes: Goes) -> Went
     ensures { λ r. ⌜ r ≡ wentOf goes ⌝ }
@@ -97,37 +91,12 @@ fn apply(
     }
 }
 
-// Ecall has the number 49.
-fn settle_alone(op: Opcode, regs: &mut [u64; 16], accumulated: &mut [bool; 16])
-    ensures { λ _. ⌜ Becomes (λ R. cond (eqb (opcodeNumber op) 49) (settle Deferred Ecall R) R) (now (regs .entry)) (now (accumulated .entry)) (now (regs .exit)) (now (accumulated .exit)) ⌝ }
-{
-    if opcode::number(op) == 49 {
-        registers::normalise_all(regs, accumulated);
-    }
-}
-
-// The sources stand where the form has them.
-fn settle_sources(p: Parts, regs: &mut [u64; 16], accumulated: &mut [bool; 16])
-    ensures { λ _. ⌜ Becomes (settle Deferred (joinedOf p)) (now (regs .entry)) (now (accumulated .entry)) (now (regs .exit)) (now (accumulated .exit)) ⌝ }
-{
-    let op = p.op;
-    match opcode::form_of(op) {
-        Form::R => deferred::normalise_two(regs, accumulated, p.b, p.c),
-        Form::I => registers::normalise(regs, accumulated, p.b),
-        Form::Shift => registers::normalise(regs, accumulated, p.b),
-        Form::S => deferred::normalise_two(regs, accumulated, p.a, p.b),
-        Form::B => deferred::normalise_two(regs, accumulated, p.a, p.b),
-        Form::J => (),
-        Form::Alone => settle_alone(op, regs, accumulated),
-    }
-}
-
 fn settle(mode: Mode, p: Parts, regs: &mut [u64; 16], accumulated: &mut [bool; 16])
     ensures { λ _. ⌜ Becomes (settle mode (joinedOf p)) (now (regs .entry)) (now (accumulated .entry)) (now (regs .exit)) (now (accumulated .exit)) ⌝ }
 {
     match mode {
         Mode::Plain => (),
-        Mode::Deferred => settle_sources(p, regs, accumulated),
+        Mode::Deferred => sources::settle(p, regs, accumulated),
     }
 }
 
@@ -151,11 +120,11 @@ fn refuse(r: Refusal, pc: u64, halted: bool) -> Advance
     }
 }
 
-// The instruction on whole values. It is decided on the registers as they are, since normalising changes no value; and so a refusal
-// changes nothing.
-fn wholly(
+// A check that is needed and has no room is refused, before anything changes.
+fn carry_out(
     mode: Mode,
     full: bool,
+    outcome: Outcome,
     p: Parts,
     pc: u64,
     halted: bool,
@@ -164,9 +133,8 @@ fn wholly(
     bounds: &mut [u8; 16],
     m: &mut [u8],
 ) -> Advance
-    ensures { λ r. ⌜ advanced r (registers (now (regs .exit)) (now (accumulated .exit)) (now (bounds .exit))) (now (m .exit)) ≡ wholly full documentNotes (joinedOf p) (world pc halted (registers (now (regs .entry)) (now (accumulated .entry)) (now (bounds .entry))) (now (m .entry))) (settle mode (joinedOf p) (registers (now (regs .entry)) (now (accumulated .entry)) (now (bounds .entry)))) ⌝ }
+    ensures { λ r. ⌜ advanced r (registers (now (regs .exit)) (now (accumulated .exit)) (now (bounds .exit))) (now (m .exit)) ≡ done full outcome (world pc halted (registers (now (regs .entry)) (now (accumulated .entry)) (now (bounds .entry))) (now (m .entry))) (settle mode (joinedOf p) (registers (now (regs .entry)) (now (accumulated .entry)) (now (bounds .entry)))) ⌝ }
 {
-    let outcome = effect::effect_of_parts(p, pc, regs, accumulated, bounds, m);
     match outcome {
         Outcome::Does(e) => {
             if both(full, e.checked) {
@@ -205,7 +173,8 @@ fn onward(pc: u64, halted: bool) -> Advance
     }
 }
 
-// `full` says that a list of checks is lent and has no room.
+// `full` says that a list of checks is lent and has no room. On whole values the instruction is decided on the registers as they are,
+// since normalising changes no value; and so a refusal changes nothing.
 pub fn execute(
     mode: Mode,
     full: bool,
@@ -222,5 +191,17 @@ pub fn execute(
     if limbs_in(mode, p, regs, accumulated, bounds) {
         return onward(pc, halted);
     }
-    wholly(mode, full, p, pc, halted, regs, accumulated, bounds, m)
+    let outcome = effect::effect_of_parts(p, pc, regs, accumulated, bounds, m);
+    carry_out(
+        mode,
+        full,
+        outcome,
+        p,
+        pc,
+        halted,
+        regs,
+        accumulated,
+        bounds,
+        m,
+    )
 }

@@ -1,16 +1,24 @@
 // One instruction, in the plain mode and in the deferred one.
 use instruction::Instruction;
+use instruction::Parts;
+use pending::Check;
 use refusal::Refusal;
 use state::State;
 use state::formed;
 ghost use mathlib.Core.Path.{_≡_};
+ghost use mathlib.Core.Bool.{false, _&&_};
+ghost use Rattle.refusal.specs.Stops.{refusalOf};
 ghost use Rattle.state.specs.Registers.{registers};
+ghost use Rattle.state.specs.Formed.{registersOf};
 ghost use Rattle.effect.specs.Notes.{documentNotes};
+ghost use Rattle.instruction.specs.Operands.{joinedOf};
+ghost use Rattle.words.specs.Words.{fitsOf};
 ghost use Rattle.execute.specs.World.{worldOf};
-ghost use Rattle.execute.specs.Execute.{admits, executeOne, executed};
+ghost use Rattle.execute.specs.Execute.{execute, admits, executeOne, executed};
+ghost use Rattle.execute.specs.declared.Went.the-variants.{Refused};
+ghost use Rattle.pending.specs.declared.Check.the-variants.{Unneeded};
 
 pub mod lent; // lent.rt: over lent registers and memory, as a run executes it
-mod deferred; // deferred.rt: Add, Sub and Addi on limbs
 
 pub enum Mode {
     Plain,
@@ -22,12 +30,6 @@ pub enum Went {
     Ebreak,
     Ecall,
     Refused(Refusal),
-}
-
-// The check that a step asks for, of its result.
-pub enum Check {
-    Unneeded,
-    Needed { value: u64, bound: u8 },
 }
 
 // What a step leaves, beside the registers and the memory, which are lent to it.
@@ -62,31 +64,35 @@ pub fn admits<'a>(
     }
 }
 
-// One given instruction, on a state by value. No list of checks is lent: the check that it asks for is in the answer.
-pub fn execute(mode: Mode, i: Instruction, s: State, m: &mut [u8]) -> Executed
-    ensures { λ r. ⌜ executed r (now (m .exit)) ≡ executeOne mode documentNotes i (worldOf s (now (m .entry))) ⌝ }
+fn takes(mode: Mode, i: Instruction, s: State) -> bool
+    ensures { λ r. ⌜ r ≡ (admits mode (registersOf s) && fitsOf i) ⌝ }
+{
+    if admits(mode, &s.regs, &s.accumulated, &s.bounds) {
+        return words::fits(i);
+    }
+    false
+}
+
+fn malformed(s: State) -> Executed
+    ensures { λ r. ⌜ r ≡ record { went = Refused (refusalOf 9 0); check = Unneeded; state = s } ⌝ }
+{
+    Executed {
+        went: Went::Refused(Refusal::Malformed),
+        check: Check::Unneeded,
+        state: s,
+    }
+}
+
+fn execute_taken(mode: Mode, p: Parts, s: State, m: &mut [u8]) -> Executed
+    ensures { λ r. ⌜ executed r (now (m .exit)) ≡ execute mode false documentNotes (joinedOf p) (worldOf s (now (m .entry))) ⌝ }
 {
     let mut regs = s.regs;
     let mut accumulated = s.accumulated;
     let mut bounds = s.bounds;
-    if !admits(mode, &regs, &accumulated, &bounds) {
-        return Executed {
-            went: Went::Refused(Refusal::Malformed),
-            check: Check::Unneeded,
-            state: s,
-        };
-    }
-    if !instruction::fits(i) {
-        return Executed {
-            went: Went::Refused(Refusal::Malformed),
-            check: Check::Unneeded,
-            state: s,
-        };
-    }
     let a = lent::execute(
         mode,
         false,
-        instruction::parts_of(i),
+        p,
         s.pc,
         s.halted,
         &mut regs,
@@ -107,4 +113,14 @@ pub fn execute(mode: Mode, i: Instruction, s: State, m: &mut [u8]) -> Executed
             bounds,
         },
     }
+}
+
+// One given instruction, on a state by value. No list of checks is lent: the check that it asks for is in the answer.
+pub fn execute(mode: Mode, i: Instruction, s: State, m: &mut [u8]) -> Executed
+    ensures { λ r. ⌜ executed r (now (m .exit)) ≡ executeOne mode documentNotes i (worldOf s (now (m .entry))) ⌝ }
+{
+    if !takes(mode, i, s) {
+        return malformed(s);
+    }
+    execute_taken(mode, instruction::parts_of(i), s, m)
 }

@@ -10,11 +10,11 @@ use Rattle.execute.specs.Execute.{executeOne}
 use Rattle.execute.specs.declared.Mode.{Mode}
 use Rattle.execute.specs.declared.Mode.the-variants.{Plain, Deferred}
 use Rattle.instruction.specs.declared.Instruction.{Instruction}
-use Rattle.run.specs.Pending.{Lists}
-use Rattle.run.specs.Step.{documentRules, Left, step}
+use Rattle.pending.specs.Pending.{Lists}
+use Rattle.step.specs.Step.{documentRules, Left, step}
 use Rattle.run.specs.Run.{Answer, run}
-use Rattle.host.specs.Layout.{STATE_BYTES, stateBytes, stateIn, written}
-use Rattle.host.specs.Answer.{ANSWER_BYTES}
+use Rattle.layout.specs.Layout.{STATE_BYTES, stateBytes, stateIn, written}
+use Rattle.layout.specs.Answer.{ANSWER_BYTES}
 use Rattle.host.specs.Call.{modeOf, stateOf}
 use Rattle.exports.specs.Machine.{wentBytes, stopBytes, checkBytes, given, executedIn, lent, steppedIn, ranIn}
 

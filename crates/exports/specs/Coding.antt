@@ -9,11 +9,11 @@ use Rattle.opcode.specs.declared.Found.the-variants.{Op, Nothing}
 use Rattle.instruction.specs.Operands.{built, partsOf}
 use Rattle.instruction.specs.declared.Instruction.{Instruction}
 use Rattle.instruction.specs.declared.Parts.{Parts}
-use Rattle.instruction.specs.declared.Decoded.{Decoded}
-use Rattle.instruction.specs.declared.Decoded.the-variants as D
-use Rattle.instruction.specs.declared.Encoded.{Encoded}
-use Rattle.instruction.specs.declared.Encoded.the-variants as E
-use Rattle.host.specs.Answer.{answerBytes}
+use Rattle.words.specs.declared.Decoded.{Decoded}
+use Rattle.words.specs.declared.Decoded.the-variants as D
+use Rattle.words.specs.declared.Encoded.{Encoded}
+use Rattle.words.specs.declared.Encoded.the-variants as E
+use Rattle.layout.specs.Answer.{answerBytes}
 
 -- the opcode's number and the registers at bits 7, 11 and 15, a byte each
 abbrev pub packedOf : Parts → ℕ

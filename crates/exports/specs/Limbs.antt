@@ -5,14 +5,14 @@ use mathlib.Core.List.{List}
 use lib.ListN.{getD}
 use lib.Dec.{eqb}
 use Rattle.refusal.specs.Stops.{numberOf}
-use Rattle.state.specs.Normalizing.{hasCarries, totalCarry, normalizeRegister, normalizeAndWrite, normalizeIfNearOverflow}
+use Rattle.normalize.specs.Normalizing.{hasCarries, totalCarry, normalizeRegister, normalizeAndWrite, normalizeIfNearOverflow}
 use Rattle.state.specs.declared.State.{State}
-use Rattle.state.specs.declared.normalize.NormalizationResult.{NormalizationResult}
-use Rattle.state.specs.declared.normalize.Normalized.{Normalized}
-use Rattle.state.specs.declared.normalize.Normalizing.{Normalizing}
-use Rattle.state.specs.declared.normalize.Normalizing.the-variants.{Unneeded, Done, Refused}
-use Rattle.host.specs.Layout.{STATE_BYTES, stateBytes, written}
-use Rattle.host.specs.Answer.{ANSWER_BYTES, answerBytes}
+use Rattle.normalize.specs.declared.NormalizationResult.{NormalizationResult}
+use Rattle.normalize.specs.declared.Normalized.{Normalized}
+use Rattle.normalize.specs.declared.Normalizing.{Normalizing}
+use Rattle.normalize.specs.declared.Normalizing.the-variants.{Unneeded, Done, Refused}
+use Rattle.layout.specs.Layout.{STATE_BYTES, stateBytes, written}
+use Rattle.layout.specs.Answer.{ANSWER_BYTES, answerBytes}
 
 -- 0 `normalize_register`, 1 `normalize_if_near_overflow`, any other `normalize_and_write`, which alone looks at the limbs given
 unfoldable pub normalizedBy : ℕ → State → ℕ → ℕ → ℕ → Normalized

@@ -2,12 +2,12 @@
 use Prim.Native.Nat.{ℕ}
 use mathlib.Core.List.{List}
 use Rattle.refusal.specs.Stops.{numberOf, particularOf}
-use Rattle.run.specs.declared.pending.Appended.{Appended}
-use Rattle.run.specs.declared.pending.Appended.the-variants as A
-use Rattle.run.specs.declared.pending.Entry.{Entry}
-use Rattle.run.specs.declared.pending.Entry.the-variants as E
-use Rattle.host.specs.Layout.{written}
-use Rattle.host.specs.Answer.{ANSWER_BYTES, answerBytes}
+use Rattle.pending.specs.declared.Appended.{Appended}
+use Rattle.pending.specs.declared.Appended.the-variants as A
+use Rattle.pending.specs.declared.Entry.{Entry}
+use Rattle.pending.specs.declared.Entry.the-variants as E
+use Rattle.layout.specs.Layout.{written}
+use Rattle.layout.specs.Answer.{ANSWER_BYTES, answerBytes}
 
 -- 0, the count, 0; or the refusal's number, 0, its particular
 abbrev pub appendedBytes : Appended → List ℕ

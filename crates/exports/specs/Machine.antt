@@ -6,13 +6,13 @@ use Rattle.refusal.specs.declared.Stop.{Stop}
 use Rattle.execute.specs.World.{World, Stepped}
 use Rattle.execute.specs.declared.Went.{Went}
 use Rattle.execute.specs.declared.Went.the-variants as W
-use Rattle.execute.specs.declared.Check.{Check}
-use Rattle.execute.specs.declared.Check.the-variants.{Unneeded, Needed}
-use Rattle.run.specs.Pending.{Lists}
-use Rattle.run.specs.Step.{Left}
+use Rattle.pending.specs.declared.Check.{Check}
+use Rattle.pending.specs.declared.Check.the-variants.{Unneeded, Needed}
+use Rattle.pending.specs.Pending.{Lists}
+use Rattle.step.specs.Step.{Left}
 use Rattle.run.specs.Run.{Answer}
-use Rattle.host.specs.Layout.{STATE_BYTES, stateBytes, written}
-use Rattle.host.specs.Answer.{ANSWER_BYTES, answerBytes}
+use Rattle.layout.specs.Layout.{STATE_BYTES, stateBytes, written}
+use Rattle.layout.specs.Answer.{ANSWER_BYTES, answerBytes}
 use Rattle.host.specs.Call.{stateOf}
 
 -- as a stop that it would be: 0 where it goes on

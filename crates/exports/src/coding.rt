@@ -1,17 +1,17 @@
-// Decoder and encoder of instructions: `instruction`.
-use host::answer::write_answer;
-use instruction::Decoded;
-use instruction::Encoded;
+// Decoder and encoder of instructions: `words`.
 use instruction::Instruction;
 use instruction::Parts;
+use layout::answer::write_answer;
 use opcode::Found;
 use refusal::number;
 use refusal::particular;
+use words::Decoded;
+use words::Encoded;
 ghost use mathlib.Core.Path.{_≡_};
 ghost use Rattle.opcode.specs.Opcodes.{opcodeNumber, opcodeIn};
-ghost use Rattle.instruction.specs.Words.{decodeIn, encodeIn};
-ghost use Rattle.host.specs.Layout.{written};
-ghost use Rattle.host.specs.Answer.{ANSWER_BYTES};
+ghost use Rattle.words.specs.Words.{decodeIn, encodeIn};
+ghost use Rattle.layout.specs.Layout.{written};
+ghost use Rattle.layout.specs.Answer.{ANSWER_BYTES};
 ghost use Rattle.exports.specs.Coding.{packedOf, decodedBytes, encodedNumber, givenOf};
 
 fn packed(p: Parts) -> u64
@@ -25,7 +25,7 @@ fn packed(p: Parts) -> u64
 pub extern "C" fn oracle_decode(answer: &mut [u8], word: u32)
     ensures { λ _. ⌜ now (answer .exit) ≡ written ANSWER_BYTES (decodedBytes (decodeIn opcodeNumber word)) (now (answer .entry)) ⌝ }
 {
-    match instruction::decode(word) {
+    match words::decode(word) {
         Decoded::Instruction(i) => {
             let p = instruction::parts_of(i);
             write_answer(answer, 0, packed(p), p.imm);
@@ -60,5 +60,5 @@ pub(crate) fn given(opcode: u8, a: u8, b: u8, c: u8, imm: u64) -> Instruction
 pub extern "C" fn oracle_encode(opcode: u8, a: u8, b: u8, c: u8, imm: u64) -> u64
     ensures { λ r. ⌜ r ≡ encodedNumber (encodeIn opcodeNumber (givenOf (opcodeIn opcodeNumber opcode) a b c imm)) ⌝ }
 {
-    encoded(instruction::encode(given(opcode, a, b, c, imm)))
+    encoded(words::encode(given(opcode, a, b, c, imm)))
 }

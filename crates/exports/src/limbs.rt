@@ -1,17 +1,16 @@
-// Limb operations, over the bytes of a state: `state::normalize`.
-use host::answer::write_answer;
-use host::layout::read_state;
-use host::layout::write_state;
+// Limb operations, over the bytes of a state: `normalize`.
+use layout::answer::write_answer;
+use layout::reading::read_state;
+use layout::writing::write_state;
+use normalize::NormalizationResult;
+use normalize::Normalized;
+use normalize::Normalizing;
 use refusal::number;
 use state::State;
-use state::normalize;
-use state::normalize::NormalizationResult;
-use state::normalize::Normalized;
-use state::normalize::Normalizing;
 ghost use mathlib.Core.Path.{_≡_};
-ghost use Rattle.state.specs.Normalizing.{wouldOverflow};
-ghost use Rattle.host.specs.Layout.{stateIn, written};
-ghost use Rattle.host.specs.Answer.{ANSWER_BYTES};
+ghost use Rattle.normalize.specs.Normalizing.{wouldOverflow};
+ghost use Rattle.layout.specs.Layout.{stateIn, written};
+ghost use Rattle.layout.specs.Answer.{ANSWER_BYTES};
 ghost use Rattle.exports.specs.Limbs.{normalizedBy, lent, codeOf, bitOf, beforeBytes, afterBytes, carryBytes, laidOut};
 
 fn code_of(n: Normalizing) -> u64

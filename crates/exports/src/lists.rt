@@ -1,14 +1,13 @@
-// Pending checks, in three lent lists: `run::pending`.
-use host::answer::write_answer;
+// Pending checks, in three lent lists: `pending`.
+use layout::answer::write_answer;
+use pending::Appended;
+use pending::Entry;
 use refusal::number;
 use refusal::particular;
-use run::pending;
-use run::pending::Appended;
-use run::pending::Entry;
 ghost use mathlib.Core.Path.{_≡_};
-ghost use Rattle.run.specs.Pending.{lists, appendAnswer, appendLists, emptied, entryAt};
-ghost use Rattle.host.specs.Layout.{written};
-ghost use Rattle.host.specs.Answer.{ANSWER_BYTES};
+ghost use Rattle.pending.specs.Pending.{lists, appendAnswer, appendLists, emptied, entryAt};
+ghost use Rattle.layout.specs.Layout.{written};
+ghost use Rattle.layout.specs.Answer.{ANSWER_BYTES};
 ghost use Rattle.exports.specs.Lists.{appendedBytes, entryIn};
 
 fn answer_with(answer: &mut [u8], a: Appended)

@@ -1,12 +1,12 @@
 // One given instruction, one step, and a run with the three lists, over the bytes of a state: `execute` and `run`.
 // Mode 0 is plain, any other deferred.
 use crate::coding;
-use execute::Check;
 use execute::Mode;
 use execute::Went;
-use host::answer::write_answer;
-use host::layout::read_state;
-use host::layout::write_state;
+use layout::answer::write_answer;
+use layout::reading::read_state;
+use layout::writing::write_state;
+use pending::Check;
 use refusal::Stop;
 use run::Ran;
 use state::State;
@@ -15,11 +15,11 @@ ghost use Rattle.opcode.specs.Opcodes.{opcodeNumber, opcodeIn};
 ghost use Rattle.execute.specs.World.{worldOf};
 ghost use Rattle.execute.specs.Execute.{executeOne};
 ghost use Rattle.effect.specs.Notes.{documentNotes};
-ghost use Rattle.run.specs.Pending.{lists};
-ghost use Rattle.run.specs.Step.{documentRules, step};
+ghost use Rattle.pending.specs.Pending.{lists};
+ghost use Rattle.step.specs.Step.{documentRules, step};
 ghost use Rattle.run.specs.Run.{run, ran};
-ghost use Rattle.host.specs.Layout.{STATE_BYTES, stateBytes, stateIn, written};
-ghost use Rattle.host.specs.Answer.{ANSWER_BYTES};
+ghost use Rattle.layout.specs.Layout.{STATE_BYTES, stateBytes, stateIn, written};
+ghost use Rattle.layout.specs.Answer.{ANSWER_BYTES};
 ghost use Rattle.host.specs.Call.{modeOf};
 ghost use Rattle.exports.specs.Coding.{givenOf};
 ghost use Rattle.exports.specs.Machine.{wentCode, wentParticular, wentBytes, stopBytes, checkBytes, given, executedIn, lent, steppedIn, ranIn};
@@ -122,7 +122,7 @@ pub extern "C" fn oracle_step(
 ) -> usize
     ensures { λ r. ⌜ lent (now (state .exit)) (now (memory .exit)) (now (answer .exit)) (lists r (now (values .exit)) (now (widths .exit)) (now (pcs .exit))) ≡ steppedIn (step (modeOf mode) documentRules (worldOf (stateIn (now (state .entry))) (now (memory .entry))) (lists count (now (values .entry)) (now (widths .entry)) (now (pcs .entry)))) (lent (now (state .entry)) (now (memory .entry)) (now (answer .entry)) (lists count (now (values .entry)) (now (widths .entry)) (now (pcs .entry)))) ⌝ }
 {
-    let r = run::step(
+    let r = step::step(
         mode_of(mode),
         read_state(state),
         memory,

@@ -11,8 +11,8 @@ use Rattle.memory.specs.Bytes.{numberAt}
 use Rattle.state.specs.Formed.{allBelow, registersOf}
 use Rattle.execute.specs.Execute.{admits}
 use Rattle.run.specs.Run.{Answer}
-use Rattle.host.specs.Layout.{STATE_BYTES, stateBytes, stateIn, recordLaid, wellLaid, written}
-use Rattle.host.specs.Answer.{ANSWER_BYTES, answerBytes}
+use Rattle.layout.specs.Layout.{STATE_BYTES, stateBytes, stateIn, recordLaid, wellLaid, written}
+use Rattle.layout.specs.Answer.{ANSWER_BYTES, answerBytes}
 use Rattle.host.specs.Call.{modeOf, stateOf, called, taken, served, ranOn, callOf}
 
 -- the first of four tests that hold together
@@ -47,10 +47,11 @@ module _ (st m an : List ℕ) (fuel mode : ℕ) where
   state-size e =
       eqb-true _ _ (first-of-four (eqb (length st) STATE_BYTES) (leb (numberAt 1 st 8) 1) (eqb (numberAt 7 st 9) 0) (allBelow (recordLaid st) 16) e)
 
-  pub call-served : (a : Answer) (st′ an′ : List ℕ) (code particular : ℕ) → taken st an mode ≡ true
-      → served a ≡ served (ranOn mode fuel (stateIn st) m) → code ≡ codeOf (a .stop) → particular ≡ particularAt (a .stop)
-      → st′ ≡ written STATE_BYTES (stateBytes (stateOf (a .world))) st → an′ ≡ written ANSWER_BYTES (answerBytes code (a .steps) particular) an
+  pub call-served : (a : Answer) (st′ an′ : List ℕ) (code : ℕ) → taken st an mode ≡ true
+      → served a ≡ served (ranOn mode fuel (stateIn st) m) → code ≡ codeOf (a .stop)
+      → st′ ≡ written STATE_BYTES (stateBytes (stateOf (a .world))) st
+      → an′ ≡ written ANSWER_BYTES (answerBytes (codeOf (a .stop)) (a .steps) (particularAt (a .stop))) an
       → called code st′ (a .world .memory) an′ ≡ callOf st m an fuel mode
   unfolding callOf written
-  call-served a st′ an′ code particular t e c p f g =
-      rw (t, ← e, f, g, eq-eqb (length st) STATE_BYTES (state-size (laid t)), eq-eqb (length an) ANSWER_BYTES (answer-size t), p, c)
+  call-served a st′ an′ code t e c f g =
+      rw (t, ← e, f, g, eq-eqb (length st) STATE_BYTES (state-size (laid t)), eq-eqb (length an) ANSWER_BYTES (answer-size t), c)

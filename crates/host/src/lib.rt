@@ -1,5 +1,10 @@
 // What the host lends, and its call of the run.
 use execute::Mode;
+use layout::answer::ANSWER_BYTES;
+use layout::answer::write_answer;
+use layout::laid::well_laid;
+use layout::reading::read_state;
+use layout::writing::write_state;
 use run::Ran;
 use state::State;
 ghost use mathlib.Core.Path.{_≡_};
@@ -7,14 +12,12 @@ ghost use mathlib.Core.Bool.{_&&_};
 ghost use lib.Dec.{eqb, leb};
 ghost use Rattle.state.specs.Formed.{registersOf};
 ghost use Rattle.execute.specs.Execute.{admits};
-ghost use Rattle.host.specs.Layout.{stateIn, wellLaid};
-ghost use Rattle.host.specs.Answer.{ANSWER_BYTES};
+ghost use Rattle.refusal.specs.Stops.{codeOf, particularAt};
+ghost use Rattle.layout.specs.Layout.{STATE_BYTES, stateBytes, stateIn, wellLaid, written};
+ghost use Rattle.layout.specs.Answer.{ANSWER_BYTES, answerBytes};
 ghost use Rattle.run.specs.Run.{answer};
 ghost use Rattle.execute.specs.World.{worldOf};
 ghost use Rattle.host.specs.Call.{modeOf, none, ranOn, called, served, callOf};
-
-pub mod answer; // answer.rt: the 24 bytes of an answer
-pub mod layout; // layout.rt: the 400 bytes of a state
 
 fn mode_of(n: u64) -> Mode
     ensures { λ r. ⌜ r ≡ modeOf n ⌝ }
@@ -38,16 +41,16 @@ fn admits(mode: u64, s: State) -> bool
 fn takes(state: &[u8], answer: usize, mode: u64) -> bool
     ensures { λ r. ⌜ r ≡ (eqb answer ANSWER_BYTES && leb mode 1 && wellLaid (now (state .entry)) && admits (modeOf mode) (registersOf (stateIn (now (state .entry))))) ⌝ }
 {
-    if answer != answer::ANSWER_BYTES {
+    if answer != ANSWER_BYTES {
         return false;
     }
     if 1 < mode {
         return false;
     }
-    if !layout::well_laid(state) {
+    if !well_laid(state) {
         return false;
     }
-    admits(mode, layout::read_state(state))
+    admits(mode, read_state(state))
 }
 
 // The run of the mode, with no list lent.
@@ -63,6 +66,18 @@ fn run_by(mode: u64, s: State, fuel: u64, m: &mut [u8]) -> Ran
     run::run_deferred(s, fuel, m, &mut values, &mut widths, &mut pcs, 0)
 }
 
+// Writes what a run leaves, and answers its code.
+fn leave(state: &mut [u8], answer: &mut [u8], r: Ran) -> u64
+    ensures { λ c. ⌜ (c ≡ codeOf (r .stop)) × (now (state .exit) ≡ written STATE_BYTES (stateBytes (r .state)) (now (state .entry))) × (now (answer .exit) ≡ written ANSWER_BYTES (answerBytes (codeOf (r .stop)) (r .steps) (particularAt (r .stop))) (now (answer .entry))) ⌝ }
+{
+    let stop = r.stop;
+    let after = r.state;
+    let code = refusal::code(stop);
+    write_state(state, after);
+    write_answer(answer, code, r.steps, refusal::particular_at(stop));
+    code
+}
+
 // The host's call: mode 0 is plain, 1 deferred. It answers the stop's code, and 9 with nothing run where an argument is malformed.
 #[no_mangle]
 pub extern "C" fn zkir_run(
@@ -75,14 +90,9 @@ pub extern "C" fn zkir_run(
     ensures { λ r. ⌜ called r (now (state .exit)) (now (memory .exit)) (now (answer .exit)) ≡ callOf (now (state .entry)) (now (memory .entry)) (now (answer .entry)) fuel mode ⌝ }
 {
     if !takes(state, answer.len(), mode) {
-        answer::write_answer(answer, 9, 0, 0);
+        write_answer(answer, 9, 0, 0);
         return 9;
     }
-    let r = run_by(mode, layout::read_state(state), fuel, memory);
-    let stop = r.stop;
-    let after = r.state;
-    let code = refusal::code(stop);
-    layout::write_state(state, after);
-    answer::write_answer(answer, code, r.steps, refusal::particular_at(stop));
-    code
+    let r = run_by(mode, read_state(state), fuel, memory);
+    leave(state, answer, r)
 }

@@ -1,3 +1,2 @@
-pub mod Steps
+pub mod Kindred
 pub mod Wholes
-pub mod OneWord

@@ -1,17 +1,9 @@
-// Instructions and their words (document 01, "Words"). The types stand here; the modules take instructions apart, read words
-// and make them.
-pub mod decoder;
-pub mod encoder;
+// The instructions, and their opcodes and operands.
 pub mod operands;
 
-pub use decoder::decode;
-pub use decoder::take;
-pub use encoder::encode;
-pub use encoder::fits;
 use opcode::Opcode;
 pub use operands::joined;
 pub use operands::parts_of;
-use refusal::Refusal;
 
 // The instructions, by what they need. An immediate is its signed number modulo 2^64, as `*imm as u64` in the Rust.
 pub enum Instruction {
@@ -160,19 +152,4 @@ pub struct Parts {
     pub b: u8,
     pub c: u8,
     pub imm: u64,
-}
-
-pub enum Decoded {
-    Instruction(Instruction),
-    Refused(Refusal),
-}
-
-pub enum Encoded {
-    Word(u32),
-    Refused(Refusal),
-}
-
-pub enum Taken {
-    Apart(Parts),
-    Refused(Refusal),
 }

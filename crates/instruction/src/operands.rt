@@ -10,7 +10,18 @@ use super::Parts;
 use super::StoreKind;
 use opcode::Opcode;
 ghost use mathlib.Core.Path.{_≡_};
-ghost use Rattle.instruction.specs.Operands.{joinedOf, partsOf, three, two, ofDivision, ofOperation, ofImmOperation, ofMove, ofLoad, ofStore, ofBranch};
+ghost use Rattle.instruction.specs.Operands.{joinedOf, partsOf, three, two, divisionOf, operationOf, immOperationOf, moveOf, loadOf, storeOf, branchOf, ofDivision, ofOperation, ofImmOperation, ofMove, ofLoad, ofStore, ofBranch};
+
+fn division(op: Opcode) -> Division
+    ensures { λ r. ⌜ r ≡ divisionOf op ⌝ }
+{
+    match op {
+        Opcode::Divu => Division::Divu,
+        Opcode::Rem => Division::Rem,
+        Opcode::Remu => Division::Remu,
+        _ => Division::Div,
+    }
+}
 
 fn divide(op: Division, p: Parts) -> Instruction
     ensures { λ r. ⌜ r ≡ Instruction.Divide op (p .a) (p .b) (p .c) ⌝ }
@@ -20,6 +31,26 @@ fn divide(op: Division, p: Parts) -> Instruction
         rd: p.a,
         rs1: p.b,
         rs2: p.c,
+    }
+}
+
+fn operation(op: Opcode) -> Operation
+    ensures { λ r. ⌜ r ≡ operationOf op ⌝ }
+{
+    match op {
+        Opcode::And => Operation::And,
+        Opcode::Or => Operation::Or,
+        Opcode::Xor => Operation::Xor,
+        Opcode::Sll => Operation::Sll,
+        Opcode::Srl => Operation::Srl,
+        Opcode::Sra => Operation::Sra,
+        Opcode::Slt => Operation::Slt,
+        Opcode::Sltu => Operation::Sltu,
+        Opcode::Sge => Operation::Sge,
+        Opcode::Sgeu => Operation::Sgeu,
+        Opcode::Seq => Operation::Seq,
+        Opcode::Sne => Operation::Sne,
+        _ => Operation::Mulh,
     }
 }
 
@@ -34,6 +65,19 @@ fn operate(op: Operation, p: Parts) -> Instruction
     }
 }
 
+fn imm_operation(op: Opcode) -> ImmOperation
+    ensures { λ r. ⌜ r ≡ immOperationOf op ⌝ }
+{
+    match op {
+        Opcode::Ori => ImmOperation::Ori,
+        Opcode::Xori => ImmOperation::Xori,
+        Opcode::Slli => ImmOperation::Slli,
+        Opcode::Srli => ImmOperation::Srli,
+        Opcode::Srai => ImmOperation::Srai,
+        _ => ImmOperation::Andi,
+    }
+}
+
 fn operate_imm(op: ImmOperation, p: Parts) -> Instruction
     ensures { λ r. ⌜ r ≡ Instruction.OpImm op (p .a) (p .b) (p .imm) ⌝ }
 {
@@ -42,6 +86,16 @@ fn operate_imm(op: ImmOperation, p: Parts) -> Instruction
         rd: p.a,
         rs1: p.b,
         imm: p.imm,
+    }
+}
+
+fn move_kind(op: Opcode) -> MoveKind
+    ensures { λ r. ⌜ r ≡ moveOf op ⌝ }
+{
+    match op {
+        Opcode::Cmovz => MoveKind::Cmovz,
+        Opcode::Cmovnz => MoveKind::Cmovnz,
+        _ => MoveKind::Cmov,
     }
 }
 
@@ -56,6 +110,19 @@ fn move_if(op: MoveKind, p: Parts) -> Instruction
     }
 }
 
+fn load_kind(op: Opcode) -> LoadKind
+    ensures { λ r. ⌜ r ≡ loadOf op ⌝ }
+{
+    match op {
+        Opcode::Lbu => LoadKind::Lbu,
+        Opcode::Lh => LoadKind::Lh,
+        Opcode::Lhu => LoadKind::Lhu,
+        Opcode::Lw => LoadKind::Lw,
+        Opcode::Ld => LoadKind::Ld,
+        _ => LoadKind::Lb,
+    }
+}
+
 fn load(op: LoadKind, p: Parts) -> Instruction
     ensures { λ r. ⌜ r ≡ Instruction.Load op (p .a) (p .b) (p .imm) ⌝ }
 {
@@ -67,6 +134,17 @@ fn load(op: LoadKind, p: Parts) -> Instruction
     }
 }
 
+fn store_kind(op: Opcode) -> StoreKind
+    ensures { λ r. ⌜ r ≡ storeOf op ⌝ }
+{
+    match op {
+        Opcode::Sh => StoreKind::Sh,
+        Opcode::Sw => StoreKind::Sw,
+        Opcode::Sd => StoreKind::Sd,
+        _ => StoreKind::Sb,
+    }
+}
+
 fn store(op: StoreKind, p: Parts) -> Instruction
     ensures { λ r. ⌜ r ≡ Instruction.Store op (p .a) (p .b) (p .imm) ⌝ }
 {
@@ -75,6 +153,19 @@ fn store(op: StoreKind, p: Parts) -> Instruction
         rs1: p.a,
         rs2: p.b,
         imm: p.imm,
+    }
+}
+
+fn branch_kind(op: Opcode) -> BranchKind
+    ensures { λ r. ⌜ r ≡ branchOf op ⌝ }
+{
+    match op {
+        Opcode::Bne => BranchKind::Bne,
+        Opcode::Blt => BranchKind::Blt,
+        Opcode::Bge => BranchKind::Bge,
+        Opcode::Bltu => BranchKind::Bltu,
+        Opcode::Bgeu => BranchKind::Bgeu,
+        _ => BranchKind::Beq,
     }
 }
 
@@ -110,53 +201,11 @@ pub fn joined(p: Parts) -> Instruction
             rs1: p.b,
             rs2: p.c,
         },
-        Opcode::Mulh => operate(Operation::Mulh, p),
-        Opcode::Div => divide(Division::Div, p),
-        Opcode::Divu => divide(Division::Divu, p),
-        Opcode::Rem => divide(Division::Rem, p),
-        Opcode::Remu => divide(Division::Remu, p),
         Opcode::Addi => Instruction::Addi {
             rd: p.a,
             rs1: p.b,
             imm: p.imm,
         },
-        Opcode::And => operate(Operation::And, p),
-        Opcode::Or => operate(Operation::Or, p),
-        Opcode::Xor => operate(Operation::Xor, p),
-        Opcode::Andi => operate_imm(ImmOperation::Andi, p),
-        Opcode::Ori => operate_imm(ImmOperation::Ori, p),
-        Opcode::Xori => operate_imm(ImmOperation::Xori, p),
-        Opcode::Sll => operate(Operation::Sll, p),
-        Opcode::Srl => operate(Operation::Srl, p),
-        Opcode::Sra => operate(Operation::Sra, p),
-        Opcode::Slli => operate_imm(ImmOperation::Slli, p),
-        Opcode::Srli => operate_imm(ImmOperation::Srli, p),
-        Opcode::Srai => operate_imm(ImmOperation::Srai, p),
-        Opcode::Slt => operate(Operation::Slt, p),
-        Opcode::Sltu => operate(Operation::Sltu, p),
-        Opcode::Sge => operate(Operation::Sge, p),
-        Opcode::Sgeu => operate(Operation::Sgeu, p),
-        Opcode::Seq => operate(Operation::Seq, p),
-        Opcode::Sne => operate(Operation::Sne, p),
-        Opcode::Cmov => move_if(MoveKind::Cmov, p),
-        Opcode::Cmovz => move_if(MoveKind::Cmovz, p),
-        Opcode::Cmovnz => move_if(MoveKind::Cmovnz, p),
-        Opcode::Lb => load(LoadKind::Lb, p),
-        Opcode::Lbu => load(LoadKind::Lbu, p),
-        Opcode::Lh => load(LoadKind::Lh, p),
-        Opcode::Lhu => load(LoadKind::Lhu, p),
-        Opcode::Lw => load(LoadKind::Lw, p),
-        Opcode::Ld => load(LoadKind::Ld, p),
-        Opcode::Sb => store(StoreKind::Sb, p),
-        Opcode::Sh => store(StoreKind::Sh, p),
-        Opcode::Sw => store(StoreKind::Sw, p),
-        Opcode::Sd => store(StoreKind::Sd, p),
-        Opcode::Beq => branch(BranchKind::Beq, p),
-        Opcode::Bne => branch(BranchKind::Bne, p),
-        Opcode::Blt => branch(BranchKind::Blt, p),
-        Opcode::Bge => branch(BranchKind::Bge, p),
-        Opcode::Bltu => branch(BranchKind::Bltu, p),
-        Opcode::Bgeu => branch(BranchKind::Bgeu, p),
         Opcode::Jal => Instruction::Jal {
             rd: p.a,
             imm: p.imm,
@@ -168,6 +217,18 @@ pub fn joined(p: Parts) -> Instruction
         },
         Opcode::Ecall => Instruction::Ecall,
         Opcode::Ebreak => Instruction::Ebreak,
+        Opcode::Div | Opcode::Divu | Opcode::Rem | Opcode::Remu => divide(division(op), p),
+        Opcode::Andi | Opcode::Ori | Opcode::Xori | Opcode::Slli | Opcode::Srli | Opcode::Srai =>
+            operate_imm(imm_operation(op), p),
+        Opcode::Cmov | Opcode::Cmovz | Opcode::Cmovnz => move_if(move_kind(op), p),
+        Opcode::Lb | Opcode::Lbu | Opcode::Lh | Opcode::Lhu | Opcode::Lw | Opcode::Ld => load(
+            load_kind(op),
+            p,
+        ),
+        Opcode::Sb | Opcode::Sh | Opcode::Sw | Opcode::Sd => store(store_kind(op), p),
+        Opcode::Beq | Opcode::Bne | Opcode::Blt | Opcode::Bge | Opcode::Bltu | Opcode::Bgeu =>
+            branch(branch_kind(op), p),
+        _ => operate(operation(op), p),
     }
 }
 

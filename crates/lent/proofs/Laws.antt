@@ -11,11 +11,11 @@ use Rattle.execute.specs.World.{worldOf}
 use Rattle.execute.specs.Execute.{admits}
 use Rattle.execute.specs.declared.Mode.the-variants.{Deferred}
 use Rattle.execute.specs.declared.Went.the-variants as W
-use Rattle.run.specs.Pending.{Lists}
-use Rattle.run.specs.Step.{Left, left, documentRules, step}
-use Rattle.run.specs.declared.OneStep.{OneStep}
-use Rattle.run.proofs.Loops.{step-malformed}
-use Rattle.checks.specs.Machine.{steppedOver}
+use Rattle.pending.specs.Pending.{Lists}
+use Rattle.step.specs.Step.{Left, left, documentRules, step}
+use Rattle.step.specs.declared.OneStep.{OneStep}
+use Rattle.step.proofs.Steps.{step-malformed}
+use Rattle.checked.specs.Machine.{steppedOver}
 use Rattle.checks.specs.declared.Pending.{Pending}
 use Rattle.lent.specs.Lent.{Stepped, lentLeft, laid, served, after, shut, readied, concluded, stepLent}
 use Rattle.lent.specs.declared.exported.Lent.{Lent}

@@ -1,4 +1,4 @@
--- What a walk that calls `checks::machine::step` cites: its contract, and that two slices passed on for good are what it asks.
+-- What a walk that calls `checked::step` cites: its contract, and that two slices passed on for good are what it asks.
 use Rattle.walks.proofs.Walk.{ !, Atoms, Contract, Fun, GName, Given, Heap, Is, Lft, List, Memory, MutSlice, RefT, Routine, SProp, Share, URA, Val, [], _$_, _<_, _^_, _∵_, _∷_, _⊛_, done, ent, fjoin, flft, frame, ftrue, join, length, move, named, nothing, owned, qed, refl, sem, sep, sliceVal, tripleOf, u8, uint-makes, usize, vint, w64, ‵, ℕ}
 use denote.Struct.Laws as LL
 use denote.Enum.Laws as EL
@@ -10,7 +10,7 @@ use Rattle.execute.proofs.Mode.Laws as O′
 use Rattle.state.proofs.State as T
 use Rattle.state.proofs.State.Laws as T′
 use Rattle.checks.proofs.Pending as K
-use Rattle.checks.proofs.machine.step as step
+use Rattle.checked.proofs.step as step
 
 -- the machine values of a mode and of a state
 abbrev pub valsM : Mode → List Val

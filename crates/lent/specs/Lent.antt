@@ -11,11 +11,11 @@ use Rattle.execute.specs.World.{World, worldOf}
 use Rattle.execute.specs.declared.Mode.the-variants.{Deferred}
 use Rattle.execute.specs.declared.Went.{Went}
 use Rattle.execute.specs.declared.Went.the-variants as W
-use Rattle.run.specs.Pending.{Lists}
-use Rattle.run.specs.Step.{Left, left, documentRules, step}
+use Rattle.pending.specs.Pending.{Lists}
+use Rattle.step.specs.Step.{Left, left, documentRules, step}
 use Rattle.run.specs.Run.{stopOf}
-use Rattle.run.specs.declared.OneStep.{OneStep}
-use Rattle.host.specs.Layout.{markOf, table}
+use Rattle.step.specs.declared.OneStep.{OneStep}
+use Rattle.layout.specs.Layout.{markOf, table}
 use Rattle.host.specs.Call.{modeOf, stateOf}
 use Rattle.lent.specs.declared.exported.Lent.{Lent}
 use Rattle.lent.specs.declared.exported.Answer.{Answer}

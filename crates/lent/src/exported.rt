@@ -1,15 +1,14 @@
 // A step of a state that a host over C lends, as a record of numbers.
 use checks::Pending;
-use checks::machine;
 use execute::Mode;
 use execute::Went;
-use run::OneStep;
 use state::State;
+use step::OneStep;
 ghost use mathlib.Core.Path.{_≡_};
 ghost use mathlib.Core.Bool.{_&&_};
 ghost use lib.Dec.{leb};
 ghost use Rattle.state.specs.Formed.{allBelow};
-ghost use Rattle.host.specs.Layout.{markOf};
+ghost use Rattle.layout.specs.Layout.{markOf};
 ghost use Rattle.host.specs.Call.{modeOf};
 ghost use Rattle.checks.specs.Records.{listed};
 ghost use Rattle.lent.specs.Lent.{markFits, laid, stateIn, numbersOf, after, readied, concluded, lentLeft, stepLent};
@@ -186,7 +185,7 @@ pub extern "C" fn zkir_step(
 {
     let old = *state;
     let a = prepare(old, mode);
-    let r = machine::step(a.mode, a.state, memory, list, count);
+    let r = checked::step(a.mode, a.state, memory, list, count);
     let d = conclude(old, r);
     *state = d.lent;
     d.answer

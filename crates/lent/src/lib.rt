@@ -1,12 +1,11 @@
 // One thin entry that steps a state which its host lends.
 use checks::Pending;
-use checks::machine;
 use execute::Mode;
 use execute::Went;
 use state::State;
 ghost use mathlib.Core.Path.{_≡_};
 ghost use Rattle.execute.specs.World.{worldOf};
-ghost use Rattle.run.specs.Step.{left, documentRules, step};
+ghost use Rattle.step.specs.Step.{left, documentRules, step};
 ghost use Rattle.checks.specs.Records.{listed};
 
 pub mod exported; // exported.rt: the same for a host over C, as a record of numbers
@@ -27,7 +26,7 @@ pub fn step_in_place(
     ensures { λ r. ⌜ left (r .went) (worldOf (now (s .exit)) (now (m .exit))) (listed (r .count) (now (list .exit))) ≡ step mode documentRules (worldOf (now (s .entry)) (now (m .entry))) (listed count (now (list .entry))) ⌝ }
 {
     let old = *s;
-    let r = machine::step(mode, old, m, list, count);
+    let r = checked::step(mode, old, m, list, count);
     *s = r.state;
     Outcome {
         went: r.went,

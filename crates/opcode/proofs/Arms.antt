@@ -7,11 +7,11 @@ use Prim.Native.Nat.{ℕ, suc}
 use lib.ListN.{getD, List·getD-map}
 use types.Run.{OneOf}
 
-alike : {A : Type 0} (f : ℕ → A) (y : A) (ks : List ℕ) (t : ℕ) → map f ks ≡ map (λ (k : ℕ). y) ks → OneOf ks t → y ≡ f t
-alike f y [] t e h = absurd h
-alike f y (k ∷ []) t e h = let p : f k ≡ y = cc in sym p ∙ ap f (sym h)
-alike f y (k ∷ (j ∷ ks)) t e (inl h) = let p : f k ≡ y = cc in sym p ∙ ap f (sym h)
-alike f y (k ∷ (j ∷ ks)) t e (inr h) = alike f y (j ∷ ks) t (cc) h
+alike : {A : Type 0} (f g : ℕ → A) (ks : List ℕ) (t : ℕ) → map f ks ≡ map g ks → OneOf ks t → f t ≡ g t
+alike f g [] t e h = absurd h
+alike f g (k ∷ []) t e h = let p : f k ≡ g k = cc in ap f h ∙ p ∙ ap g (sym h)
+alike f g (k ∷ (j ∷ ks)) t e (inl h) = let p : f k ≡ g k = cc in ap f h ∙ p ∙ ap g (sym h)
+alike f g (k ∷ (j ∷ ks)) t e (inr h) = alike f g (j ∷ ks) t (cc) h
 
 -- the places of the entries that pass a test, counted from k
 abbrev pub those : {X : Type 0} → (X → Bool) → ℕ → List X → List ℕ
@@ -19,10 +19,16 @@ those f k [] = []
 those f k (x ∷ xs) = cond (f x) (k ∷ those f (suc k) xs) (those f (suc k) xs)
 
 module _ {X : Type 0} (xs : List X) (d : X) (tag : X → ℕ) (at : (x : X) → getD xs (tag x) d ≡ x) where
+  -- two tables with the same entries at the variants that an arm takes
+  pub along : {A : Type 0} (f g : X → A) (ks : List ℕ) → map (λ (k : ℕ). f (getD xs k d)) ks ≡ map (λ (k : ℕ). g (getD xs k d)) ks
+      → (x : X) → OneOf ks (tag x) → f x ≡ g x
+  along f g ks e x h =
+      ap f (sym (at x)) ∙ alike (λ (k : ℕ). f (getD xs k d)) (λ (k : ℕ). g (getD xs k d)) ks (tag x) e h ∙ ap g (at x)
+
   -- an arm that takes several variants and answers the same for each
   pub arm : {A : Type 0} (g : X → A) (y : A) (ks : List ℕ) → map (λ (k : ℕ). g (getD xs k d)) ks ≡ map (λ (k : ℕ). y) ks
       → (x : X) → OneOf ks (tag x) → y ≡ g x
-  arm g y ks e x h = alike (λ (k : ℕ). g (getD xs k d)) y ks (tag x) e h ∙ ap g (at x)
+  arm g y ks e x h = sym (along g (λ (z : X). y) ks e x h)
 
   -- two tables with the same entries
   pub everywhere : {A : Type 0} (f g : X → A) → f d ≡ g d → map f xs ≡ map g xs → (x : X) → f x ≡ g x

@@ -1,4 +1,3 @@
 pub mod Arms
 pub mod Variants
 pub mod Numberings
-pub mod FormKinds

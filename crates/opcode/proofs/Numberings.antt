@@ -4,7 +4,7 @@ use native.Mathlib.Omega.{arith}
 use native.Mathlib.Nat.{not-suc-le-zero}
 use mathlib.Core.Path.{_≡_, refl, sym, ap, _∙_}
 use mathlib.Core.Bool.{Bool, true, false, cond, _&&_}
-use mathlib.Core.List.{List, [], _∷_, map}
+use mathlib.Core.List.{List, [], _∷_, _++_, map}
 use lib.ListN.{length, getD, List·getD-map}
 use lib.Dec.{T, eqb, ltb, leb, eqb→eq}
 use mir.Facts.{and-yes}
@@ -21,6 +21,10 @@ use Rattle.opcode.proofs.Variants.{place, all-at}
 pub record Numbering (num : Opcode → ℕ) : Type 0 where
   pub distinct : (o p : Opcode) → num o ≡ num p → o ≡ p
   pub below : (o : Opcode) → num o < 128
+
+abbrev pub isOp : Found → Bool
+isOp (Op op) = true
+isOp Nothing = false
 
 module _ (num : Opcode → ℕ) where
   found-at : Numbering num → (os : List Opcode) (op : Opcode) (k : ℕ) → k < length os → getD os k O.Add ≡ op
@@ -59,15 +63,24 @@ module _ (num : Opcode → ℕ) where
   Unlike U [] n = U
   Unlike U (o ∷ os) n = Unlike (U × (n ≡ num o → ⊥)) os n
 
-  none-after : (U : Type 0) (os : List Opcode) (n : ℕ) → Unlike U os n → U × (firstIn num os n ≡ Nothing)
+  late : (U : Type 0) (os ps : List Opcode) (n : ℕ) → Unlike U os n → U × (firstIn num (os ++ ps) n ≡ firstIn num ps n)
   unfolding firstIn
-  none-after U [] n u = (u, refl)
-  none-after U (o ∷ os) n u =
-      let h = none-after (U × (n ≡ num o → ⊥)) os n u in
+  late U [] ps n u = (u, refl)
+  late U (o ∷ os) ps n u =
+      let h = late (U × (n ≡ num o → ⊥)) os ps n u in
       (h .0 .0, rw (ne-eqb n (num o) (h .0 .1)) (h .1))
 
-  pub none : (n : ℕ) → Unlike (Unit {0}) all n → opcodeIn num n ≡ Nothing
-  none n u = none-after (Unit {0}) all n u .1
+  -- and so it is the last one's, if it is one's at all
+  pub last : (os : List Opcode) (o : Opcode) (n : ℕ) → Unlike (Unit {0}) os n → isOp (firstIn num (os ++ (o ∷ [])) n) ≡ true
+      → Op o ≡ firstIn num (os ++ (o ∷ [])) n
+  unfolding firstIn
+  last os o n u e =
+      let s = late (Unit {0}) os (o ∷ []) n u .1 in
+      by (eqb n (num o)) (ap isOp (sym s) ∙ e) ∙ sym s
+    where
+      by : (t : Bool) → isOp (cond t (Op o) Nothing) ≡ true → Op o ≡ cond t (Op o) Nothing
+      by true e = refl
+      by false e = let z : _≡_ {A = ℕ} 0 1 = cc in absurd (omega arith)
 
 pub opcodeNumber-numbers : Numbering opcodeNumber
 unfolding all
@@ -98,10 +111,6 @@ unfolding all
 number-at n l h =
     sym (List·getD-map opcodeNumber all (n - 1) O.Add) ∙ counted 1 (map opcodeNumber all) tt (n - 1) 1 (omega arith) ∙ omega arith
 
-abbrev pub isOp : Found → Bool
-isOp (Op op) = true
-isOp Nothing = false
-
 pub valid : (n : ℕ) → isOp (opcodeIn opcodeNumber n) ≡ within 1 50 n
 unfolding all
 valid n = by (opcodeIn opcodeNumber n) refl
@@ -122,3 +131,10 @@ valid n = by (opcodeIn opcodeNumber n) refl
     by : (o : Found) → opcodeIn opcodeNumber n ≡ o → isOp o ≡ within 1 50 n
     by (Op op) e = sym (small op) ∙ ap (within 1 50) (number-found opcodeNumber all n op e)
     by Nothing e = none-valid e (leb 1 n) (leb n 50) refl refl
+
+pub no-opcode : (n : ℕ) → within 1 50 n ≡ false → Nothing ≡ opcodeIn opcodeNumber n
+no-opcode n e = by (opcodeIn opcodeNumber n) (valid n ∙ e)
+  where
+    by : (o : Found) → isOp o ≡ false → Nothing ≡ o
+    by (Op op) e = let z : _≡_ {A = ℕ} 0 1 = cc in absurd (omega arith)
+    by Nothing e = refl

@@ -1,8 +1,8 @@
-// The fifty opcodes (document 01, "Words"): their numbers, and how an instruction of each lies in its word.
-pub mod forms;
-
+// The fifty opcodes (document 01, "Words") and their numbers, and the forms that words have.
 ghost use mathlib.Core.Path.{_≡_};
-ghost use Rattle.opcode.specs.Opcodes.{opcodeNumber, formOf, opcodeIn};
+ghost use mathlib.Core.Bool.{true};
+ghost use Rattle.encoding.specs.Fields.{within};
+ghost use Rattle.opcode.specs.Opcodes.{opcodeNumber, opcodeIn};
 
 // The fifty, in document 01's order.
 pub enum Opcode {
@@ -132,86 +132,72 @@ pub fn number(op: Opcode) -> u8
     }
 }
 
+// Of a number that has one.
+fn opcode_at(n: u8) -> Opcode
+    requires { ⌜ within 1 50 n ≡ true ⌝ }
+    ensures { λ r. ⌜ Found.Op r ≡ opcodeIn opcodeNumber n ⌝ }
+{
+    match n {
+        1 => Opcode::Add,
+        2 => Opcode::Sub,
+        3 => Opcode::Mul,
+        4 => Opcode::Mulh,
+        5 => Opcode::Div,
+        6 => Opcode::Divu,
+        7 => Opcode::Rem,
+        8 => Opcode::Remu,
+        9 => Opcode::Addi,
+        10 => Opcode::And,
+        11 => Opcode::Or,
+        12 => Opcode::Xor,
+        13 => Opcode::Andi,
+        14 => Opcode::Ori,
+        15 => Opcode::Xori,
+        16 => Opcode::Sll,
+        17 => Opcode::Srl,
+        18 => Opcode::Sra,
+        19 => Opcode::Slli,
+        20 => Opcode::Srli,
+        21 => Opcode::Srai,
+        22 => Opcode::Slt,
+        23 => Opcode::Sltu,
+        24 => Opcode::Sge,
+        25 => Opcode::Sgeu,
+        26 => Opcode::Seq,
+        27 => Opcode::Sne,
+        28 => Opcode::Cmov,
+        29 => Opcode::Cmovz,
+        30 => Opcode::Cmovnz,
+        31 => Opcode::Lb,
+        32 => Opcode::Lbu,
+        33 => Opcode::Lh,
+        34 => Opcode::Lhu,
+        35 => Opcode::Lw,
+        36 => Opcode::Ld,
+        37 => Opcode::Sb,
+        38 => Opcode::Sh,
+        39 => Opcode::Sw,
+        40 => Opcode::Sd,
+        41 => Opcode::Beq,
+        42 => Opcode::Bne,
+        43 => Opcode::Blt,
+        44 => Opcode::Bge,
+        45 => Opcode::Bltu,
+        46 => Opcode::Bgeu,
+        47 => Opcode::Jal,
+        48 => Opcode::Jalr,
+        49 => Opcode::Ecall,
+        _ => Opcode::Ebreak,
+    }
+}
+
 // One range test when compiled: the variants stand in the order of their numbers.
 pub fn opcode_of(n: u8) -> Found
     ensures { λ r. ⌜ r ≡ opcodeIn opcodeNumber n ⌝ }
 {
-    match n {
-        1 => Found::Op(Opcode::Add),
-        2 => Found::Op(Opcode::Sub),
-        3 => Found::Op(Opcode::Mul),
-        4 => Found::Op(Opcode::Mulh),
-        5 => Found::Op(Opcode::Div),
-        6 => Found::Op(Opcode::Divu),
-        7 => Found::Op(Opcode::Rem),
-        8 => Found::Op(Opcode::Remu),
-        9 => Found::Op(Opcode::Addi),
-        10 => Found::Op(Opcode::And),
-        11 => Found::Op(Opcode::Or),
-        12 => Found::Op(Opcode::Xor),
-        13 => Found::Op(Opcode::Andi),
-        14 => Found::Op(Opcode::Ori),
-        15 => Found::Op(Opcode::Xori),
-        16 => Found::Op(Opcode::Sll),
-        17 => Found::Op(Opcode::Srl),
-        18 => Found::Op(Opcode::Sra),
-        19 => Found::Op(Opcode::Slli),
-        20 => Found::Op(Opcode::Srli),
-        21 => Found::Op(Opcode::Srai),
-        22 => Found::Op(Opcode::Slt),
-        23 => Found::Op(Opcode::Sltu),
-        24 => Found::Op(Opcode::Sge),
-        25 => Found::Op(Opcode::Sgeu),
-        26 => Found::Op(Opcode::Seq),
-        27 => Found::Op(Opcode::Sne),
-        28 => Found::Op(Opcode::Cmov),
-        29 => Found::Op(Opcode::Cmovz),
-        30 => Found::Op(Opcode::Cmovnz),
-        31 => Found::Op(Opcode::Lb),
-        32 => Found::Op(Opcode::Lbu),
-        33 => Found::Op(Opcode::Lh),
-        34 => Found::Op(Opcode::Lhu),
-        35 => Found::Op(Opcode::Lw),
-        36 => Found::Op(Opcode::Ld),
-        37 => Found::Op(Opcode::Sb),
-        38 => Found::Op(Opcode::Sh),
-        39 => Found::Op(Opcode::Sw),
-        40 => Found::Op(Opcode::Sd),
-        41 => Found::Op(Opcode::Beq),
-        42 => Found::Op(Opcode::Bne),
-        43 => Found::Op(Opcode::Blt),
-        44 => Found::Op(Opcode::Bge),
-        45 => Found::Op(Opcode::Bltu),
-        46 => Found::Op(Opcode::Bgeu),
-        47 => Found::Op(Opcode::Jal),
-        48 => Found::Op(Opcode::Jalr),
-        49 => Found::Op(Opcode::Ecall),
-        50 => Found::Op(Opcode::Ebreak),
-        _ => Found::Nothing,
-    }
-}
-
-pub fn form_of(op: Opcode) -> Form
-    ensures { λ r. ⌜ r ≡ formOf op ⌝ }
-{
-    match op {
-        Opcode::Addi
-        | Opcode::Andi
-        | Opcode::Ori
-        | Opcode::Xori
-        | Opcode::Lb
-        | Opcode::Lbu
-        | Opcode::Lh
-        | Opcode::Lhu
-        | Opcode::Lw
-        | Opcode::Ld
-        | Opcode::Jalr => Form::I,
-        Opcode::Slli | Opcode::Srli | Opcode::Srai => Form::Shift,
-        Opcode::Sb | Opcode::Sh | Opcode::Sw | Opcode::Sd => Form::S,
-        Opcode::Beq | Opcode::Bne | Opcode::Blt | Opcode::Bge | Opcode::Bltu | Opcode::Bgeu =>
-            Form::B,
-        Opcode::Jal => Form::J,
-        Opcode::Ecall | Opcode::Ebreak => Form::Alone,
-        _ => Form::R,
+    if (1 <= n) & (n <= 50) {
+        Found::Op(opcode_at(n))
+    } else {
+        Found::Nothing
     }
 }

@@ -3,16 +3,18 @@
 use Prim.Native.Nat.{ℕ}
 use mathlib.Core.Path.{_≡_, refl, sym, ap, ap₂, _∙_}
 use mathlib.Core.List.{List}
+use lib.ListN.{set}
 use denote.Ref.{now}
 use Rattle.checks.proofs as checks
+use Rattle.checked.proofs as checked
 use Rattle.lent.proofs as lent
 use Rattle.execute.specs.World.{worldOf}
-use Rattle.run.specs.Pending.{Lists, emptied, entryAt}
-use Rattle.run.specs.Step.{Left, left, documentRules, step}
+use Rattle.pending.specs.Pending.{Lists, emptied, entryAt}
+use Rattle.step.specs.Step.{Left, left, documentRules, step}
 use Rattle.run.specs.Run.{Answer, run}
 use Rattle.host.specs.Call.{stateOf}
 use Rattle.checks.specs.Records.{listed, answerTo, withOne}
-use Rattle.checks.specs.Machine.{steppedOver, ranOver}
+use Rattle.checked.specs.Machine.{steppedOver, ranOver}
 use Rattle.checks.specs.declared.Pending.{Pending}
 use Rattle.checks.proofs.Listed.{listed-injective}
 use Rattle.lent.specs.Lent.{Stepped, lentLeft, stepLent}
@@ -52,24 +54,31 @@ reads κs a r e = r ≡ entryAt (a .1 .1 .0) (listed (a .1 .0) (now (a .0)))
 pub checks·read : ByHand checks.read.ended (λ M 𝓤. checks.read.clauses {M = M} 𝓤) reads
 checks·read = (λ M 𝓤 H A m run κs a g r e. refl, λ κs a x y. one (λ r. r & x .1))
 
-abbrev steps : Telling checks.machine.step.ended
+abbrev notes : Telling checks.note_at.ended
+notes κs a r e = now (e .0) ≡ set (now (a .0)) (a .1 .0) (a .1 .1 .0)
+
+pub checks·note-at : ByHand checks.note_at.ended (λ M 𝓤. checks.note_at.clauses {M = M} 𝓤) notes
+checks·note-at = (λ M 𝓤 H A m run κs a g r e. refl, λ κs a x y. one (λ l. tt & l & x .1 .1))
+
+-- ---- checked
+abbrev steps : Telling checked.step.ended
 steps κs a r e =
     steppedOver r (now (e .1 .1 .0)) (now (e .1 .1 .1 .0))
     ≡ step (a .0) documentRules (worldOf (a .1 .0) (now (a .1 .1 .0))) (listed (a .1 .1 .1 .1 .0) (now (a .1 .1 .1 .0)))
 
-pub checks·machine·step : ByHand checks.machine.step.ended (λ M 𝓤. checks.machine.step.clauses {M = M} 𝓤) steps
-checks·machine·step = (
+pub checked·step : ByHand checked.step.ended (λ M 𝓤. checked.step.clauses {M = M} 𝓤) steps
+checked·step = (
   λ M 𝓤 H A m run κs a g r e. refl,
   λ κs a x y. over (λ (s : Left) l. oneStepOf s & tt & tt & s .world .memory & l & tt & tt) (λ s. s .lists) refl refl,
 )
 
-abbrev runs : Telling checks.machine.run.ended
+abbrev runs : Telling checked.run.ended
 runs κs a r e =
     ranOver r (now (e .1 .1 .1 .0)) (now (e .1 .1 .1 .1 .0))
     ≡ run (a .0) documentRules (a .1 .1 .0) (worldOf (a .1 .0) (now (a .1 .1 .1 .0))) (listed (a .1 .1 .1 .1 .1 .0) (now (a .1 .1 .1 .1 .0)))
 
-pub checks·machine·run : ByHand checks.machine.run.ended (λ M 𝓤. checks.machine.run.clauses {M = M} 𝓤) runs
-checks·machine·run = (
+pub checked·run : ByHand checked.run.ended (λ M 𝓤. checked.run.clauses {M = M} 𝓤) runs
+checked·run = (
   λ M 𝓤 H A m run κs a g r e. refl,
   λ κs a x y. over (λ (s : Answer) l. ranOf s & tt & tt & tt & s .world .memory & l & tt & tt) (λ s. s .lists) refl refl,
 )

@@ -8,17 +8,16 @@ use mir.Facts.{and-yes}
 use Rattle.encoding.specs.Fields.{signedOf, fitsIn}
 use Rattle.value.specs.Forty.{shl40, signed40, sra40}
 use Rattle.value.specs.Division.{divOf, remOf}
-use Rattle.opcode.specs.Forms.{immFits}
-use Rattle.instruction.specs.Words.{partsFit, wordOf, encodedIn}
+use Rattle.forms.specs.Forms.{immFits}
+use Rattle.words.specs.Words.{partsFit, wordOf, encodedIn}
 use Rattle.state.specs.Held.{valueOf, heldOf, kept, waits}
 use Rattle.state.specs.Registers.{place}
 use Rattle.state.specs.Formed.{limbsFit, isZero, registerFits, zeroFits, allBelow, wellFormed, allWhole}
-use Rattle.state.specs.Normalizing.{normalizeAndWrite}
+use Rattle.normalize.specs.Normalizing.{normalizeAndWrite}
 use Rattle.effect.specs.Operations.{divided, result}
 use Rattle.effect.specs.Effects.{seen, dividing, effect}
 use Rattle.execute.specs.World.{done}
-use Rattle.execute.specs.Settle.{settle}
-use Rattle.execute.specs.Deferred.{limbsIn}
+use Rattle.execute.specs.Modes.{limbsIn, settle}
 use Rattle.execute.specs.Execute.{finish, execute, admits, executeOne}
 use Rattle.promises.specs.Corners.{Corner, number, integer, All, paper}
 

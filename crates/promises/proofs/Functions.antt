@@ -6,18 +6,27 @@ use Rattle.value.proofs as value
 use Rattle.bound.proofs as bound
 use Rattle.refusal.proofs as refusal
 use Rattle.memory.proofs as memory
+use Rattle.pending.proofs as pending
 use Rattle.opcode.proofs as opcode
+use Rattle.forms.proofs as forms
 use Rattle.instruction.proofs as instruction
+use Rattle.words.proofs as words
 use Rattle.state.proofs as state
+use Rattle.normalize.proofs as normalize
+use Rattle.layout.proofs as layout
 use Rattle.effect.proofs as effect
+use Rattle.deferred.proofs as deferred
 use Rattle.execute.proofs as execute
+use Rattle.step.proofs as step
 use Rattle.run.proofs as run
 use Rattle.host.proofs as host
+use Rattle.singles.proofs as singles
 use Rattle.exports.proofs as exports
 use Rattle.state.specs.Registers.{Registers}
+use Rattle.deferred.specs.Limbs.{Limbed}
 use Rattle.execute.specs.World.{Stepped}
-use Rattle.run.specs.Pending.{Lists}
-use Rattle.run.specs.Step.{Left}
+use Rattle.pending.specs.Pending.{Lists}
+use Rattle.step.specs.Step.{Left}
 use Rattle.run.specs.Run.{Answer}
 use Rattle.run.specs.Leg.{Leg}
 use Rattle.host.specs.Call.{Called}
@@ -235,43 +244,64 @@ memory·store κs a x y = two (λ r m. r & m & x .1 .1)
 pub memory·fetch : Determined memory.fetch.ended memory.fetch.Reads.Learnt
 memory·fetch κs a x y = one (λ r. r & x .1)
 
+-- ---- pending
+pub pending·lists-fit : Determined pending.lists_fit.ended pending.lists_fit.Reads.Learnt
+pending·lists-fit κs a x y = one (λ r. r & x .1)
+
+pub pending·full-at : Determined pending.full_at.ended pending.full_at.Reads.Learnt
+pending·full-at κs a x y = one (λ r. r & x .1)
+
+pub pending·list : Determined pending.list.ended pending.list.Reads.Learnt
+pending·list κs a x y = one (λ (l : Lists). l .count & l .values & l .bounds & l .pcs & x .1 .1 .1 .1)
+
+pub pending·append : Determined pending.append.ended pending.append.Reads.Learnt
+pending·append κs a x y = two (λ r (l : Lists). r & l .values & l .bounds & l .pcs & x .1 .1 .1 .1)
+
+pub pending·empty : Determined pending.empty.ended pending.empty.Reads.Learnt
+pending·empty κs a x y = one (λ (l : Lists). l .count & l .values & l .bounds & l .pcs & x .1 .1 .1 .1)
+
+pub pending·read : Determined pending.read.ended pending.read.Reads.Learnt
+pending·read κs a x y = one (λ r. r & x .1)
+
 -- ---- opcode
-pub opcode·forms·unused : Determined opcode.forms.unused.ended opcode.forms.unused.Reads.Learnt
-opcode·forms·unused κs a x y = one (λ r. r & x .1)
-
-pub opcode·forms·immediate : Determined opcode.forms.immediate.ended opcode.forms.immediate.Reads.Learnt
-opcode·forms·immediate κs a x y = one (λ r. r & x .1)
-
-pub opcode·forms·imm-fits : Determined opcode.forms.imm_fits.ended opcode.forms.imm_fits.Reads.Learnt
-opcode·forms·imm-fits κs a x y = one (λ r. r & x .1)
-
 pub opcode·number : Determined opcode.number.ended opcode.number.Reads.Learnt
 opcode·number κs a x y = one (λ r. r & x .1)
 
 pub opcode·opcode-of : Determined opcode.opcode_of.ended opcode.opcode_of.Reads.Learnt
 opcode·opcode-of κs a x y = one (λ r. r & x .1)
 
-pub opcode·form-of : Determined opcode.form_of.ended opcode.form_of.Reads.Learnt
-opcode·form-of κs a x y = one (λ r. r & x .1)
+-- ---- forms
+pub forms·unused : Determined forms.unused.ended forms.unused.Reads.Learnt
+forms·unused κs a x y = one (λ r. r & x .1)
+
+pub forms·immediate : Determined forms.immediate.ended forms.immediate.Reads.Learnt
+forms·immediate κs a x y = one (λ r. r & x .1)
+
+pub forms·imm-fits : Determined forms.imm_fits.ended forms.imm_fits.Reads.Learnt
+forms·imm-fits κs a x y = one (λ r. r & x .1)
+
+pub forms·form-of : Determined forms.form_of.ended forms.form_of.Reads.Learnt
+forms·form-of κs a x y = one (λ r. r & x .1)
 
 -- ---- instruction
-pub instruction·decoder·take : Determined instruction.decoder.take.ended instruction.decoder.take.Reads.Learnt
-instruction·decoder·take κs a x y = one (λ r. r & x .1)
-
-pub instruction·decoder·decode : Determined instruction.decoder.decode.ended instruction.decoder.decode.Reads.Learnt
-instruction·decoder·decode κs a x y = one (λ r. r & x .1)
-
-pub instruction·encoder·fits : Determined instruction.encoder.fits.ended instruction.encoder.fits.Reads.Learnt
-instruction·encoder·fits κs a x y = one (λ r. r & x .1)
-
-pub instruction·encoder·encode : Determined instruction.encoder.encode.ended instruction.encoder.encode.Reads.Learnt
-instruction·encoder·encode κs a x y = one (λ r. r & x .1)
-
 pub instruction·operands·joined : Determined instruction.operands.joined.ended instruction.operands.joined.Reads.Learnt
 instruction·operands·joined κs a x y = one (λ r. r & x .1)
 
 pub instruction·operands·parts-of : Determined instruction.operands.parts_of.ended instruction.operands.parts_of.Reads.Learnt
 instruction·operands·parts-of κs a x y = one (λ r. r & x .1)
+
+-- ---- words
+pub words·decoder·take : Determined words.decoder.take.ended words.decoder.take.Reads.Learnt
+words·decoder·take κs a x y = one (λ r. r & x .1)
+
+pub words·decoder·decode : Determined words.decoder.decode.ended words.decoder.decode.Reads.Learnt
+words·decoder·decode κs a x y = one (λ r. r & x .1)
+
+pub words·encoder·fits : Determined words.encoder.fits.ended words.encoder.fits.Reads.Learnt
+words·encoder·fits κs a x y = one (λ r. r & x .1)
+
+pub words·encoder·encode : Determined words.encoder.encode.ended words.encoder.encode.Reads.Learnt
+words·encoder·encode κs a x y = one (λ r. r & x .1)
 
 -- ---- state
 pub state·formed·well-formed : Determined state.formed.well_formed.ended state.formed.well_formed.Reads.Learnt
@@ -282,24 +312,6 @@ state·formed·all-whole κs a x y = one (λ r. r & x .1)
 
 pub state·fresh : Determined state.fresh.ended state.fresh.Reads.Learnt
 state·fresh κs a x y = one (λ r. r & x .1)
-
-pub state·normalize·has-carries : Determined state.normalize.has_carries.ended state.normalize.has_carries.Reads.Learnt
-state·normalize·has-carries κs a x y = one (λ r. r & x .1)
-
-pub state·normalize·total-carry : Determined state.normalize.total_carry.ended state.normalize.total_carry.Reads.Learnt
-state·normalize·total-carry κs a x y = one (λ r. r & x .1)
-
-pub state·normalize·would-overflow : Determined state.normalize.would_overflow.ended state.normalize.would_overflow.Reads.Learnt
-state·normalize·would-overflow κs a x y = one (λ r. r & x .1)
-
-pub state·normalize·normalize-register : Determined state.normalize.normalize_register.ended state.normalize.normalize_register.Reads.Learnt
-state·normalize·normalize-register κs a x y = one (λ r. r & x .1)
-
-pub state·normalize·normalize-and-write : Determined state.normalize.normalize_and_write.ended state.normalize.normalize_and_write.Reads.Learnt
-state·normalize·normalize-and-write κs a x y = one (λ r. r & x .1)
-
-pub state·normalize·normalize-if-near-overflow : Determined state.normalize.normalize_if_near_overflow.ended state.normalize.normalize_if_near_overflow.Reads.Learnt
-state·normalize·normalize-if-near-overflow κs a x y = one (λ r. r & x .1)
 
 pub state·registers·value-at : Determined state.registers.value_at.ended state.registers.value_at.Reads.Learnt
 state·registers·value-at κs a x y = one (λ r. r & x .1)
@@ -325,12 +337,54 @@ state·registers·normalise κs a x y = λ p q. one (λ (R : Registers). tt & R 
 pub state·registers·normalise-all : Determined state.registers.normalise_all.ended state.registers.normalise_all.Reads.Learnt
 state·registers·normalise-all κs a x y = λ p q. one (λ (R : Registers). tt & R .values & R .accumulated & x .1 .1 .1) (p []) (q [])
 
+-- ---- normalize
+pub normalize·has-carries : Determined normalize.has_carries.ended normalize.has_carries.Reads.Learnt
+normalize·has-carries κs a x y = one (λ r. r & x .1)
+
+pub normalize·total-carry : Determined normalize.total_carry.ended normalize.total_carry.Reads.Learnt
+normalize·total-carry κs a x y = one (λ r. r & x .1)
+
+pub normalize·would-overflow : Determined normalize.would_overflow.ended normalize.would_overflow.Reads.Learnt
+normalize·would-overflow κs a x y = one (λ r. r & x .1)
+
+pub normalize·normalize-register : Determined normalize.normalize_register.ended normalize.normalize_register.Reads.Learnt
+normalize·normalize-register κs a x y = one (λ r. r & x .1)
+
+pub normalize·normalize-and-write : Determined normalize.normalize_and_write.ended normalize.normalize_and_write.Reads.Learnt
+normalize·normalize-and-write κs a x y = one (λ r. r & x .1)
+
+pub normalize·normalize-if-near-overflow : Determined normalize.normalize_if_near_overflow.ended normalize.normalize_if_near_overflow.Reads.Learnt
+normalize·normalize-if-near-overflow κs a x y = one (λ r. r & x .1)
+
+-- ---- layout
+pub layout·answer·write-answer : Determined layout.answer.write_answer.ended layout.answer.write_answer.Reads.Learnt
+layout·answer·write-answer κs a x y = one (λ m. tt & m & x .1 .1)
+
+pub layout·writing·write-state : Determined layout.writing.write_state.ended layout.writing.write_state.Reads.Learnt
+layout·writing·write-state κs a x y = one (λ m. tt & m & x .1 .1)
+
+pub layout·reading·read-state : Determined layout.reading.read_state.ended layout.reading.read_state.Reads.Learnt
+layout·reading·read-state κs a x y = one (λ r. r & x .1)
+
+pub layout·laid·well-laid : Determined layout.laid.well_laid.ended layout.laid.well_laid.Reads.Learnt
+layout·laid·well-laid κs a x y = one (λ r. r & x .1)
+
+pub layout·laid·is-admissible : Determined layout.laid.is_admissible.ended layout.laid.is_admissible.Reads.Learnt
+layout·laid·is-admissible κs a x y = one (λ r. r & x .1)
+
 -- ---- effect
 pub effect·effect-of : Determined effect.effect_of.ended effect.effect_of.Reads.Learnt
 effect·effect-of κs a x y = one (λ r. r & x .1)
 
 pub effect·effect-of-parts : Determined effect.effect_of_parts.ended effect.effect_of_parts.Reads.Learnt
 effect·effect-of-parts κs a x y = one (λ r. r & x .1)
+
+-- ---- deferred
+pub deferred·sources·settle : Determined deferred.sources.settle.ended deferred.sources.settle.Reads.Learnt
+deferred·sources·settle κs a x y = λ p q. one (λ (R : Registers). tt & tt & R .values & R .accumulated & tt) (p []) (q [])
+
+pub deferred·limbs : Determined deferred.limbs.ended deferred.limbs.Reads.Learnt
+deferred·limbs κs a x y = one (λ (l : Limbed). l .waits & tt & l .registers .values & l .registers .accumulated & l .registers .bounds & tt)
 
 -- ---- execute
 pub execute·lent·execute : Determined execute.lent.execute.ended execute.lent.execute.Reads.Learnt
@@ -342,24 +396,22 @@ execute·admits κs a x y = one (λ r. r & x .1)
 pub execute·execute : Determined execute.execute.ended execute.execute.Reads.Learnt
 execute·execute κs a x y = one (λ (s : Stepped). executedOf s & tt & tt & tt & s .world .memory & tt)
 
--- ---- run
-pub run·step : Determined run.step.ended run.step.Reads.Learnt
-run·step κs a x y = one (λ (l : Left). oneStepOf l & tt & tt & l .world .memory & l .lists .values & l .lists .bounds & l .lists .pcs & tt & tt)
+-- ---- step
+pub step·step-in : Determined step.step_in.ended step.step_in.Reads.Learnt
+step·step-in κs a x y = one (λ (s : Stepped). let R = s .world .registers in advanceOf s & tt & tt & tt & tt & R .values & R .accumulated & R .bounds & s .world .memory & tt)
 
+pub step·takes : Determined step.takes.ended step.takes.Reads.Learnt
+step·takes κs a x y = one (λ r. r & x .1)
+
+pub step·step : Determined step.step.ended step.step.Reads.Learnt
+step·step κs a x y = one (λ (l : Left). oneStepOf l & tt & tt & l .world .memory & l .lists .values & l .lists .bounds & l .lists .pcs & tt & tt)
+
+-- ---- run
 pub run·run-plain : Determined run.run_plain.ended run.run_plain.Reads.Learnt
 run·run-plain κs a x y = one (λ (r : Answer). ranOf r & tt & tt & r .world .memory & r .lists .values & r .lists .bounds & r .lists .pcs & tt & tt)
 
 pub run·run-deferred : Determined run.run_deferred.ended run.run_deferred.Reads.Learnt
 run·run-deferred κs a x y = one (λ (r : Answer). ranOf r & tt & tt & r .world .memory & r .lists .values & r .lists .bounds & r .lists .pcs & tt & tt)
-
-pub run·pending·append : Determined run.pending.append.ended run.pending.append.Reads.Learnt
-run·pending·append κs a x y = two (λ r (l : Lists). r & l .values & l .bounds & l .pcs & x .1 .1 .1 .1)
-
-pub run·pending·empty : Determined run.pending.empty.ended run.pending.empty.Reads.Learnt
-run·pending·empty κs a x y = one (λ (l : Lists). l .count & l .values & l .bounds & l .pcs & x .1 .1 .1 .1)
-
-pub run·pending·read : Determined run.pending.read.ended run.pending.read.Reads.Learnt
-run·pending·read κs a x y = one (λ r. r & x .1)
 
 pub run·goes-on : Determined run.goes_on.ended run.goes_on.Reads.Learnt
 run·goes-on κs a x y = one (λ r. r & x .1)
@@ -371,64 +423,179 @@ pub run·leg·advance : Determined run.leg.advance.ended run.leg.advance.Reads.L
 run·leg·advance κs a x y = one (λ (l : Leg). goneOf l & tt & tt & tt & tt & l .world .memory & tt)
 
 -- ---- host
-pub host·answer·write-answer : Determined host.answer.write_answer.ended host.answer.write_answer.Reads.Learnt
-host·answer·write-answer κs a x y = one (λ m. tt & m & x .1 .1)
-
-pub host·layout·write-state : Determined host.layout.write_state.ended host.layout.write_state.Reads.Learnt
-host·layout·write-state κs a x y = one (λ m. tt & m & x .1 .1)
-
-pub host·layout·read-state : Determined host.layout.read_state.ended host.layout.read_state.Reads.Learnt
-host·layout·read-state κs a x y = one (λ r. r & x .1)
-
-pub host·layout·well-laid : Determined host.layout.well_laid.ended host.layout.well_laid.Reads.Learnt
-host·layout·well-laid κs a x y = one (λ r. r & x .1)
-
-pub host·layout·is-admissible : Determined host.layout.is_admissible.ended host.layout.is_admissible.Reads.Learnt
-host·layout·is-admissible κs a x y = one (λ r. r & x .1)
-
 pub host·zkir-run : Determined host.zkir_run.ended host.zkir_run.Reads.Learnt
 host·zkir-run κs a x y = one (λ (c : Called). c .code & c .state & c .memory & c .answer & x .1 .1 .1 .1)
 
+-- ---- singles
+pub singles·bounds·oracle-bound-from-constant : Determined singles.bounds.oracle_bound_from_constant.ended singles.bounds.oracle_bound_from_constant.Reads.Learnt
+singles·bounds·oracle-bound-from-constant κs a x y = one (λ r. r & x .1)
+
+pub singles·bounds·oracle-bound-after-add : Determined singles.bounds.oracle_bound_after_add.ended singles.bounds.oracle_bound_after_add.Reads.Learnt
+singles·bounds·oracle-bound-after-add κs a x y = one (λ r. r & x .1)
+
+pub singles·bounds·oracle-bound-after-sub : Determined singles.bounds.oracle_bound_after_sub.ended singles.bounds.oracle_bound_after_sub.Reads.Learnt
+singles·bounds·oracle-bound-after-sub κs a x y = one (λ r. r & x .1)
+
+pub singles·bounds·oracle-bound-after-mul : Determined singles.bounds.oracle_bound_after_mul.ended singles.bounds.oracle_bound_after_mul.Reads.Learnt
+singles·bounds·oracle-bound-after-mul κs a x y = one (λ r. r & x .1)
+
+pub singles·bounds·oracle-bound-after-and : Determined singles.bounds.oracle_bound_after_and.ended singles.bounds.oracle_bound_after_and.Reads.Learnt
+singles·bounds·oracle-bound-after-and κs a x y = one (λ r. r & x .1)
+
+pub singles·bounds·oracle-bound-after-move : Determined singles.bounds.oracle_bound_after_move.ended singles.bounds.oracle_bound_after_move.Reads.Learnt
+singles·bounds·oracle-bound-after-move κs a x y = one (λ r. r & x .1)
+
+pub singles·bounds·oracle-bound-after-div : Determined singles.bounds.oracle_bound_after_div.ended singles.bounds.oracle_bound_after_div.Reads.Learnt
+singles·bounds·oracle-bound-after-div κs a x y = one (λ r. r & x .1)
+
+pub singles·bounds·oracle-bound-after-shl : Determined singles.bounds.oracle_bound_after_shl.ended singles.bounds.oracle_bound_after_shl.Reads.Learnt
+singles·bounds·oracle-bound-after-shl κs a x y = one (λ r. r & x .1)
+
+pub singles·bounds·oracle-bound-after-srl : Determined singles.bounds.oracle_bound_after_srl.ended singles.bounds.oracle_bound_after_srl.Reads.Learnt
+singles·bounds·oracle-bound-after-srl κs a x y = one (λ r. r & x .1)
+
+pub singles·bounds·oracle-bound-after-sra : Determined singles.bounds.oracle_bound_after_sra.ended singles.bounds.oracle_bound_after_sra.Reads.Learnt
+singles·bounds·oracle-bound-after-sra κs a x y = one (λ r. r & x .1)
+
+pub singles·bounds·oracle-bound-after-cmp : Determined singles.bounds.oracle_bound_after_cmp.ended singles.bounds.oracle_bound_after_cmp.Reads.Learnt
+singles·bounds·oracle-bound-after-cmp κs a x y = one (λ r. r & x .1)
+
+pub singles·bounds·oracle-bound-after-load : Determined singles.bounds.oracle_bound_after_load.ended singles.bounds.oracle_bound_after_load.Reads.Learnt
+singles·bounds·oracle-bound-after-load κs a x y = one (λ r. r & x .1)
+
+pub singles·bounds·oracle-bound-needs-check : Determined singles.bounds.oracle_bound_needs_check.ended singles.bounds.oracle_bound_needs_check.Reads.Learnt
+singles·bounds·oracle-bound-needs-check κs a x y = one (λ r. r & x .1)
+
+pub singles·values·oracle-value-add : Determined singles.values.oracle_value_add.ended singles.values.oracle_value_add.Reads.Learnt
+singles·values·oracle-value-add κs a x y = one (λ r. r & x .1)
+
+pub singles·values·oracle-value-sub : Determined singles.values.oracle_value_sub.ended singles.values.oracle_value_sub.Reads.Learnt
+singles·values·oracle-value-sub κs a x y = one (λ r. r & x .1)
+
+pub singles·values·oracle-value-mul : Determined singles.values.oracle_value_mul.ended singles.values.oracle_value_mul.Reads.Learnt
+singles·values·oracle-value-mul κs a x y = one (λ r. r & x .1)
+
+pub singles·values·oracle-value-and : Determined singles.values.oracle_value_and.ended singles.values.oracle_value_and.Reads.Learnt
+singles·values·oracle-value-and κs a x y = one (λ r. r & x .1)
+
+pub singles·values·oracle-value-or : Determined singles.values.oracle_value_or.ended singles.values.oracle_value_or.Reads.Learnt
+singles·values·oracle-value-or κs a x y = one (λ r. r & x .1)
+
+pub singles·values·oracle-value-xor : Determined singles.values.oracle_value_xor.ended singles.values.oracle_value_xor.Reads.Learnt
+singles·values·oracle-value-xor κs a x y = one (λ r. r & x .1)
+
+pub singles·values·oracle-value-shl : Determined singles.values.oracle_value_shl.ended singles.values.oracle_value_shl.Reads.Learnt
+singles·values·oracle-value-shl κs a x y = one (λ r. r & x .1)
+
+pub singles·values·oracle-value-shr : Determined singles.values.oracle_value_shr.ended singles.values.oracle_value_shr.Reads.Learnt
+singles·values·oracle-value-shr κs a x y = one (λ r. r & x .1)
+
+pub singles·values·oracle-value-sra : Determined singles.values.oracle_value_sra.ended singles.values.oracle_value_sra.Reads.Learnt
+singles·values·oracle-value-sra κs a x y = one (λ r. r & x .1)
+
+pub singles·values·oracle-value-slt : Determined singles.values.oracle_value_slt.ended singles.values.oracle_value_slt.Reads.Learnt
+singles·values·oracle-value-slt κs a x y = one (λ r. r & x .1)
+
+pub singles·values·oracle-value-ult : Determined singles.values.oracle_value_ult.ended singles.values.oracle_value_ult.Reads.Learnt
+singles·values·oracle-value-ult κs a x y = one (λ r. r & x .1)
+
+pub singles·values·oracle-value-mulh : Determined singles.values.oracle_value_mulh.ended singles.values.oracle_value_mulh.Reads.Learnt
+singles·values·oracle-value-mulh κs a x y = one (λ r. r & x .1)
+
+pub singles·values·oracle-value-div : Determined singles.values.oracle_value_div.ended singles.values.oracle_value_div.Reads.Learnt
+singles·values·oracle-value-div κs a x y = one (λ r. r & x .1)
+
+pub singles·values·oracle-value-rem : Determined singles.values.oracle_value_rem.ended singles.values.oracle_value_rem.Reads.Learnt
+singles·values·oracle-value-rem κs a x y = one (λ r. r & x .1)
+
+pub singles·values·oracle-value-divu : Determined singles.values.oracle_value_divu.ended singles.values.oracle_value_divu.Reads.Learnt
+singles·values·oracle-value-divu κs a x y = one (λ r. r & x .1)
+
+pub singles·values·oracle-value-remu : Determined singles.values.oracle_value_remu.ended singles.values.oracle_value_remu.Reads.Learnt
+singles·values·oracle-value-remu κs a x y = one (λ r. r & x .1)
+
+pub singles·values·oracle-value-extend-8 : Determined singles.values.oracle_value_extend_8.ended singles.values.oracle_value_extend_8.Reads.Learnt
+singles·values·oracle-value-extend-8 κs a x y = one (λ r. r & x .1)
+
+pub singles·values·oracle-value-extend-16 : Determined singles.values.oracle_value_extend_16.ended singles.values.oracle_value_extend_16.Reads.Learnt
+singles·values·oracle-value-extend-16 κs a x y = one (λ r. r & x .1)
+
+pub singles·values·oracle-value-extend-17 : Determined singles.values.oracle_value_extend_17.ended singles.values.oracle_value_extend_17.Reads.Learnt
+singles·values·oracle-value-extend-17 κs a x y = one (λ r. r & x .1)
+
+pub singles·values·oracle-value-extend-21 : Determined singles.values.oracle_value_extend_21.ended singles.values.oracle_value_extend_21.Reads.Learnt
+singles·values·oracle-value-extend-21 κs a x y = one (λ r. r & x .1)
+
+pub singles·values·oracle-value-plus : Determined singles.values.oracle_value_plus.ended singles.values.oracle_value_plus.Reads.Learnt
+singles·values·oracle-value-plus κs a x y = one (λ r. r & x .1)
+
+pub singles·words·oracle-extract-opcode : Determined singles.words.oracle_extract_opcode.ended singles.words.oracle_extract_opcode.Reads.Learnt
+singles·words·oracle-extract-opcode κs a x y = one (λ r. r & x .1)
+
+pub singles·words·oracle-extract-rd : Determined singles.words.oracle_extract_rd.ended singles.words.oracle_extract_rd.Reads.Learnt
+singles·words·oracle-extract-rd κs a x y = one (λ r. r & x .1)
+
+pub singles·words·oracle-extract-rs1 : Determined singles.words.oracle_extract_rs1.ended singles.words.oracle_extract_rs1.Reads.Learnt
+singles·words·oracle-extract-rs1 κs a x y = one (λ r. r & x .1)
+
+pub singles·words·oracle-extract-rs2 : Determined singles.words.oracle_extract_rs2.ended singles.words.oracle_extract_rs2.Reads.Learnt
+singles·words·oracle-extract-rs2 κs a x y = one (λ r. r & x .1)
+
+pub singles·words·oracle-extract-funct : Determined singles.words.oracle_extract_funct.ended singles.words.oracle_extract_funct.Reads.Learnt
+singles·words·oracle-extract-funct κs a x y = one (λ r. r & x .1)
+
+pub singles·words·oracle-extract-imm : Determined singles.words.oracle_extract_imm.ended singles.words.oracle_extract_imm.Reads.Learnt
+singles·words·oracle-extract-imm κs a x y = one (λ r. r & x .1)
+
+pub singles·words·oracle-extract-offset : Determined singles.words.oracle_extract_offset.ended singles.words.oracle_extract_offset.Reads.Learnt
+singles·words·oracle-extract-offset κs a x y = one (λ r. r & x .1)
+
+pub singles·words·oracle-extract-stype-rs1 : Determined singles.words.oracle_extract_stype_rs1.ended singles.words.oracle_extract_stype_rs1.Reads.Learnt
+singles·words·oracle-extract-stype-rs1 κs a x y = one (λ r. r & x .1)
+
+pub singles·words·oracle-extract-stype-rs2 : Determined singles.words.oracle_extract_stype_rs2.ended singles.words.oracle_extract_stype_rs2.Reads.Learnt
+singles·words·oracle-extract-stype-rs2 κs a x y = one (λ r. r & x .1)
+
+pub singles·words·oracle-extract-stype-imm : Determined singles.words.oracle_extract_stype_imm.ended singles.words.oracle_extract_stype_imm.Reads.Learnt
+singles·words·oracle-extract-stype-imm κs a x y = one (λ r. r & x .1)
+
+pub singles·words·oracle-extract-imm-signed : Determined singles.words.oracle_extract_imm_signed.ended singles.words.oracle_extract_imm_signed.Reads.Learnt
+singles·words·oracle-extract-imm-signed κs a x y = one (λ r. r & x .1)
+
+pub singles·words·oracle-extract-offset-signed : Determined singles.words.oracle_extract_offset_signed.ended singles.words.oracle_extract_offset_signed.Reads.Learnt
+singles·words·oracle-extract-offset-signed κs a x y = one (λ r. r & x .1)
+
+pub singles·words·oracle-is-rtype : Determined singles.words.oracle_is_rtype.ended singles.words.oracle_is_rtype.Reads.Learnt
+singles·words·oracle-is-rtype κs a x y = one (λ r. r & x .1)
+
+pub singles·words·oracle-is-itype : Determined singles.words.oracle_is_itype.ended singles.words.oracle_is_itype.Reads.Learnt
+singles·words·oracle-is-itype κs a x y = one (λ r. r & x .1)
+
+pub singles·words·oracle-is-stype : Determined singles.words.oracle_is_stype.ended singles.words.oracle_is_stype.Reads.Learnt
+singles·words·oracle-is-stype κs a x y = one (λ r. r & x .1)
+
+pub singles·words·oracle-is-btype : Determined singles.words.oracle_is_btype.ended singles.words.oracle_is_btype.Reads.Learnt
+singles·words·oracle-is-btype κs a x y = one (λ r. r & x .1)
+
+pub singles·words·oracle-is-jtype : Determined singles.words.oracle_is_jtype.ended singles.words.oracle_is_jtype.Reads.Learnt
+singles·words·oracle-is-jtype κs a x y = one (λ r. r & x .1)
+
+pub singles·words·oracle-encode-rtype : Determined singles.words.oracle_encode_rtype.ended singles.words.oracle_encode_rtype.Reads.Learnt
+singles·words·oracle-encode-rtype κs a x y = one (λ r. r & x .1)
+
+pub singles·words·oracle-encode-itype : Determined singles.words.oracle_encode_itype.ended singles.words.oracle_encode_itype.Reads.Learnt
+singles·words·oracle-encode-itype κs a x y = one (λ r. r & x .1)
+
+pub singles·words·oracle-encode-stype : Determined singles.words.oracle_encode_stype.ended singles.words.oracle_encode_stype.Reads.Learnt
+singles·words·oracle-encode-stype κs a x y = one (λ r. r & x .1)
+
+pub singles·words·oracle-encode-btype : Determined singles.words.oracle_encode_btype.ended singles.words.oracle_encode_btype.Reads.Learnt
+singles·words·oracle-encode-btype κs a x y = one (λ r. r & x .1)
+
+pub singles·words·oracle-encode-jtype : Determined singles.words.oracle_encode_jtype.ended singles.words.oracle_encode_jtype.Reads.Learnt
+singles·words·oracle-encode-jtype κs a x y = one (λ r. r & x .1)
+
 -- ---- exports
-pub exports·bounds·oracle-bound-from-constant : Determined exports.bounds.oracle_bound_from_constant.ended exports.bounds.oracle_bound_from_constant.Reads.Learnt
-exports·bounds·oracle-bound-from-constant κs a x y = one (λ r. r & x .1)
-
-pub exports·bounds·oracle-bound-after-add : Determined exports.bounds.oracle_bound_after_add.ended exports.bounds.oracle_bound_after_add.Reads.Learnt
-exports·bounds·oracle-bound-after-add κs a x y = one (λ r. r & x .1)
-
-pub exports·bounds·oracle-bound-after-sub : Determined exports.bounds.oracle_bound_after_sub.ended exports.bounds.oracle_bound_after_sub.Reads.Learnt
-exports·bounds·oracle-bound-after-sub κs a x y = one (λ r. r & x .1)
-
-pub exports·bounds·oracle-bound-after-mul : Determined exports.bounds.oracle_bound_after_mul.ended exports.bounds.oracle_bound_after_mul.Reads.Learnt
-exports·bounds·oracle-bound-after-mul κs a x y = one (λ r. r & x .1)
-
-pub exports·bounds·oracle-bound-after-and : Determined exports.bounds.oracle_bound_after_and.ended exports.bounds.oracle_bound_after_and.Reads.Learnt
-exports·bounds·oracle-bound-after-and κs a x y = one (λ r. r & x .1)
-
-pub exports·bounds·oracle-bound-after-move : Determined exports.bounds.oracle_bound_after_move.ended exports.bounds.oracle_bound_after_move.Reads.Learnt
-exports·bounds·oracle-bound-after-move κs a x y = one (λ r. r & x .1)
-
-pub exports·bounds·oracle-bound-after-div : Determined exports.bounds.oracle_bound_after_div.ended exports.bounds.oracle_bound_after_div.Reads.Learnt
-exports·bounds·oracle-bound-after-div κs a x y = one (λ r. r & x .1)
-
-pub exports·bounds·oracle-bound-after-shl : Determined exports.bounds.oracle_bound_after_shl.ended exports.bounds.oracle_bound_after_shl.Reads.Learnt
-exports·bounds·oracle-bound-after-shl κs a x y = one (λ r. r & x .1)
-
-pub exports·bounds·oracle-bound-after-srl : Determined exports.bounds.oracle_bound_after_srl.ended exports.bounds.oracle_bound_after_srl.Reads.Learnt
-exports·bounds·oracle-bound-after-srl κs a x y = one (λ r. r & x .1)
-
-pub exports·bounds·oracle-bound-after-sra : Determined exports.bounds.oracle_bound_after_sra.ended exports.bounds.oracle_bound_after_sra.Reads.Learnt
-exports·bounds·oracle-bound-after-sra κs a x y = one (λ r. r & x .1)
-
-pub exports·bounds·oracle-bound-after-cmp : Determined exports.bounds.oracle_bound_after_cmp.ended exports.bounds.oracle_bound_after_cmp.Reads.Learnt
-exports·bounds·oracle-bound-after-cmp κs a x y = one (λ r. r & x .1)
-
-pub exports·bounds·oracle-bound-after-load : Determined exports.bounds.oracle_bound_after_load.ended exports.bounds.oracle_bound_after_load.Reads.Learnt
-exports·bounds·oracle-bound-after-load κs a x y = one (λ r. r & x .1)
-
-pub exports·bounds·oracle-bound-needs-check : Determined exports.bounds.oracle_bound_needs_check.ended exports.bounds.oracle_bound_needs_check.Reads.Learnt
-exports·bounds·oracle-bound-needs-check κs a x y = one (λ r. r & x .1)
-
 pub exports·coding·oracle-decode : Determined exports.coding.oracle_decode.ended exports.coding.oracle_decode.Reads.Learnt
 exports·coding·oracle-decode κs a x y = one (λ m. tt & m & x .1 .1)
 
@@ -458,132 +625,3 @@ exports·machine·oracle-step κs a x y = one (λ (l : MachineLeft). l .lists .c
 
 pub exports·machine·oracle-run : Determined exports.machine.oracle_run.ended exports.machine.oracle_run.Reads.Learnt
 exports·machine·oracle-run κs a x y = one (λ (l : MachineLeft). l .lists .count & l .state & l .memory & l .answer & l .lists .values & l .lists .bounds & l .lists .pcs & x .1 .1 .1 .1 .1 .1 .1)
-
-pub exports·values·oracle-value-add : Determined exports.values.oracle_value_add.ended exports.values.oracle_value_add.Reads.Learnt
-exports·values·oracle-value-add κs a x y = one (λ r. r & x .1)
-
-pub exports·values·oracle-value-sub : Determined exports.values.oracle_value_sub.ended exports.values.oracle_value_sub.Reads.Learnt
-exports·values·oracle-value-sub κs a x y = one (λ r. r & x .1)
-
-pub exports·values·oracle-value-mul : Determined exports.values.oracle_value_mul.ended exports.values.oracle_value_mul.Reads.Learnt
-exports·values·oracle-value-mul κs a x y = one (λ r. r & x .1)
-
-pub exports·values·oracle-value-and : Determined exports.values.oracle_value_and.ended exports.values.oracle_value_and.Reads.Learnt
-exports·values·oracle-value-and κs a x y = one (λ r. r & x .1)
-
-pub exports·values·oracle-value-or : Determined exports.values.oracle_value_or.ended exports.values.oracle_value_or.Reads.Learnt
-exports·values·oracle-value-or κs a x y = one (λ r. r & x .1)
-
-pub exports·values·oracle-value-xor : Determined exports.values.oracle_value_xor.ended exports.values.oracle_value_xor.Reads.Learnt
-exports·values·oracle-value-xor κs a x y = one (λ r. r & x .1)
-
-pub exports·values·oracle-value-shl : Determined exports.values.oracle_value_shl.ended exports.values.oracle_value_shl.Reads.Learnt
-exports·values·oracle-value-shl κs a x y = one (λ r. r & x .1)
-
-pub exports·values·oracle-value-shr : Determined exports.values.oracle_value_shr.ended exports.values.oracle_value_shr.Reads.Learnt
-exports·values·oracle-value-shr κs a x y = one (λ r. r & x .1)
-
-pub exports·values·oracle-value-sra : Determined exports.values.oracle_value_sra.ended exports.values.oracle_value_sra.Reads.Learnt
-exports·values·oracle-value-sra κs a x y = one (λ r. r & x .1)
-
-pub exports·values·oracle-value-slt : Determined exports.values.oracle_value_slt.ended exports.values.oracle_value_slt.Reads.Learnt
-exports·values·oracle-value-slt κs a x y = one (λ r. r & x .1)
-
-pub exports·values·oracle-value-ult : Determined exports.values.oracle_value_ult.ended exports.values.oracle_value_ult.Reads.Learnt
-exports·values·oracle-value-ult κs a x y = one (λ r. r & x .1)
-
-pub exports·values·oracle-value-mulh : Determined exports.values.oracle_value_mulh.ended exports.values.oracle_value_mulh.Reads.Learnt
-exports·values·oracle-value-mulh κs a x y = one (λ r. r & x .1)
-
-pub exports·values·oracle-value-div : Determined exports.values.oracle_value_div.ended exports.values.oracle_value_div.Reads.Learnt
-exports·values·oracle-value-div κs a x y = one (λ r. r & x .1)
-
-pub exports·values·oracle-value-rem : Determined exports.values.oracle_value_rem.ended exports.values.oracle_value_rem.Reads.Learnt
-exports·values·oracle-value-rem κs a x y = one (λ r. r & x .1)
-
-pub exports·values·oracle-value-divu : Determined exports.values.oracle_value_divu.ended exports.values.oracle_value_divu.Reads.Learnt
-exports·values·oracle-value-divu κs a x y = one (λ r. r & x .1)
-
-pub exports·values·oracle-value-remu : Determined exports.values.oracle_value_remu.ended exports.values.oracle_value_remu.Reads.Learnt
-exports·values·oracle-value-remu κs a x y = one (λ r. r & x .1)
-
-pub exports·values·oracle-value-extend-8 : Determined exports.values.oracle_value_extend_8.ended exports.values.oracle_value_extend_8.Reads.Learnt
-exports·values·oracle-value-extend-8 κs a x y = one (λ r. r & x .1)
-
-pub exports·values·oracle-value-extend-16 : Determined exports.values.oracle_value_extend_16.ended exports.values.oracle_value_extend_16.Reads.Learnt
-exports·values·oracle-value-extend-16 κs a x y = one (λ r. r & x .1)
-
-pub exports·values·oracle-value-extend-17 : Determined exports.values.oracle_value_extend_17.ended exports.values.oracle_value_extend_17.Reads.Learnt
-exports·values·oracle-value-extend-17 κs a x y = one (λ r. r & x .1)
-
-pub exports·values·oracle-value-extend-21 : Determined exports.values.oracle_value_extend_21.ended exports.values.oracle_value_extend_21.Reads.Learnt
-exports·values·oracle-value-extend-21 κs a x y = one (λ r. r & x .1)
-
-pub exports·values·oracle-value-plus : Determined exports.values.oracle_value_plus.ended exports.values.oracle_value_plus.Reads.Learnt
-exports·values·oracle-value-plus κs a x y = one (λ r. r & x .1)
-
-pub exports·words·oracle-extract-opcode : Determined exports.words.oracle_extract_opcode.ended exports.words.oracle_extract_opcode.Reads.Learnt
-exports·words·oracle-extract-opcode κs a x y = one (λ r. r & x .1)
-
-pub exports·words·oracle-extract-rd : Determined exports.words.oracle_extract_rd.ended exports.words.oracle_extract_rd.Reads.Learnt
-exports·words·oracle-extract-rd κs a x y = one (λ r. r & x .1)
-
-pub exports·words·oracle-extract-rs1 : Determined exports.words.oracle_extract_rs1.ended exports.words.oracle_extract_rs1.Reads.Learnt
-exports·words·oracle-extract-rs1 κs a x y = one (λ r. r & x .1)
-
-pub exports·words·oracle-extract-rs2 : Determined exports.words.oracle_extract_rs2.ended exports.words.oracle_extract_rs2.Reads.Learnt
-exports·words·oracle-extract-rs2 κs a x y = one (λ r. r & x .1)
-
-pub exports·words·oracle-extract-funct : Determined exports.words.oracle_extract_funct.ended exports.words.oracle_extract_funct.Reads.Learnt
-exports·words·oracle-extract-funct κs a x y = one (λ r. r & x .1)
-
-pub exports·words·oracle-extract-imm : Determined exports.words.oracle_extract_imm.ended exports.words.oracle_extract_imm.Reads.Learnt
-exports·words·oracle-extract-imm κs a x y = one (λ r. r & x .1)
-
-pub exports·words·oracle-extract-offset : Determined exports.words.oracle_extract_offset.ended exports.words.oracle_extract_offset.Reads.Learnt
-exports·words·oracle-extract-offset κs a x y = one (λ r. r & x .1)
-
-pub exports·words·oracle-extract-stype-rs1 : Determined exports.words.oracle_extract_stype_rs1.ended exports.words.oracle_extract_stype_rs1.Reads.Learnt
-exports·words·oracle-extract-stype-rs1 κs a x y = one (λ r. r & x .1)
-
-pub exports·words·oracle-extract-stype-rs2 : Determined exports.words.oracle_extract_stype_rs2.ended exports.words.oracle_extract_stype_rs2.Reads.Learnt
-exports·words·oracle-extract-stype-rs2 κs a x y = one (λ r. r & x .1)
-
-pub exports·words·oracle-extract-stype-imm : Determined exports.words.oracle_extract_stype_imm.ended exports.words.oracle_extract_stype_imm.Reads.Learnt
-exports·words·oracle-extract-stype-imm κs a x y = one (λ r. r & x .1)
-
-pub exports·words·oracle-extract-imm-signed : Determined exports.words.oracle_extract_imm_signed.ended exports.words.oracle_extract_imm_signed.Reads.Learnt
-exports·words·oracle-extract-imm-signed κs a x y = one (λ r. r & x .1)
-
-pub exports·words·oracle-extract-offset-signed : Determined exports.words.oracle_extract_offset_signed.ended exports.words.oracle_extract_offset_signed.Reads.Learnt
-exports·words·oracle-extract-offset-signed κs a x y = one (λ r. r & x .1)
-
-pub exports·words·oracle-is-rtype : Determined exports.words.oracle_is_rtype.ended exports.words.oracle_is_rtype.Reads.Learnt
-exports·words·oracle-is-rtype κs a x y = one (λ r. r & x .1)
-
-pub exports·words·oracle-is-itype : Determined exports.words.oracle_is_itype.ended exports.words.oracle_is_itype.Reads.Learnt
-exports·words·oracle-is-itype κs a x y = one (λ r. r & x .1)
-
-pub exports·words·oracle-is-stype : Determined exports.words.oracle_is_stype.ended exports.words.oracle_is_stype.Reads.Learnt
-exports·words·oracle-is-stype κs a x y = one (λ r. r & x .1)
-
-pub exports·words·oracle-is-btype : Determined exports.words.oracle_is_btype.ended exports.words.oracle_is_btype.Reads.Learnt
-exports·words·oracle-is-btype κs a x y = one (λ r. r & x .1)
-
-pub exports·words·oracle-is-jtype : Determined exports.words.oracle_is_jtype.ended exports.words.oracle_is_jtype.Reads.Learnt
-exports·words·oracle-is-jtype κs a x y = one (λ r. r & x .1)
-
-pub exports·words·oracle-encode-rtype : Determined exports.words.oracle_encode_rtype.ended exports.words.oracle_encode_rtype.Reads.Learnt
-exports·words·oracle-encode-rtype κs a x y = one (λ r. r & x .1)
-
-pub exports·words·oracle-encode-itype : Determined exports.words.oracle_encode_itype.ended exports.words.oracle_encode_itype.Reads.Learnt
-exports·words·oracle-encode-itype κs a x y = one (λ r. r & x .1)
-
-pub exports·words·oracle-encode-stype : Determined exports.words.oracle_encode_stype.ended exports.words.oracle_encode_stype.Reads.Learnt
-exports·words·oracle-encode-stype κs a x y = one (λ r. r & x .1)
-
-pub exports·words·oracle-encode-btype : Determined exports.words.oracle_encode_btype.ended exports.words.oracle_encode_btype.Reads.Learnt
-exports·words·oracle-encode-btype κs a x y = one (λ r. r & x .1)
-
-pub exports·words·oracle-encode-jtype : Determined exports.words.oracle_encode_jtype.ended exports.words.oracle_encode_jtype.Reads.Learnt
-exports·words·oracle-encode-jtype κs a x y = one (λ r. r & x .1)

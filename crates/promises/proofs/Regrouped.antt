@@ -2,11 +2,11 @@
 use Rattle.execute.specs.World.{Stepped}
 use Rattle.execute.specs.declared.Advance.{Advance}
 use Rattle.execute.specs.declared.Executed.{Executed}
-use Rattle.run.specs.Step.{Left}
+use Rattle.step.specs.Step.{Left}
 use Rattle.run.specs.Run.{Answer}
 use Rattle.run.specs.Leg.{Leg}
 use Rattle.run.specs.declared.leg.Gone.{Gone}
-use Rattle.run.specs.declared.OneStep.{OneStep}
+use Rattle.step.specs.declared.OneStep.{OneStep}
 use Rattle.run.specs.declared.Ran.{Ran}
 use Rattle.host.specs.Call.{stateOf}
 use Rattle.lent.specs.declared.Outcome.{Outcome}

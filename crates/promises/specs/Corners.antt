@@ -7,19 +7,19 @@ use lib.IntN.{ℤ, pos, negsuc}
 use lib.ListN.{getD}
 use Rattle.encoding.specs.Fields.{signedOf}
 use Rattle.opcode.specs.Opcodes.{opcodeNumber}
-use Rattle.instruction.specs.Words.{encodeIn}
+use Rattle.words.specs.Words.{encodeIn}
 use Rattle.instruction.specs.declared.Instruction.{Instruction}
 use Rattle.instruction.specs.declared.Instruction.the-variants as N
 use Rattle.instruction.specs.declared.Division.the-variants.{Div, Rem}
 use Rattle.instruction.specs.declared.Operation.the-variants.{Mulh, Sll, Sra, Seq, Sltu}
 use Rattle.instruction.specs.declared.StoreKind.the-variants.{Sw}
-use Rattle.instruction.specs.declared.Encoded.{Encoded}
-use Rattle.instruction.specs.declared.Encoded.the-variants as E
+use Rattle.words.specs.declared.Encoded.{Encoded}
+use Rattle.words.specs.declared.Encoded.the-variants as E
 use Rattle.state.specs.Held.{valueOf}
 use Rattle.state.specs.Registers.{registers, holds}
 use Rattle.state.specs.Formed.{freshAt}
-use Rattle.state.specs.Normalizing.{normalizeAndWrite}
-use Rattle.state.specs.declared.normalize.NormalizationResult.{NormalizationResult}
+use Rattle.normalize.specs.Normalizing.{normalizeAndWrite}
+use Rattle.normalize.specs.declared.NormalizationResult.{NormalizationResult}
 use Rattle.effect.specs.Notes.{documentNotes}
 use Rattle.execute.specs.World.{World, world}
 use Rattle.execute.specs.Execute.{executeOne}

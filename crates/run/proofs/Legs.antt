@@ -11,10 +11,10 @@ use Rattle.execute.specs.World.{World, Stepped, stepped}
 use Rattle.execute.specs.declared.Mode.{Mode}
 use Rattle.execute.specs.declared.Went.{Went}
 use Rattle.execute.specs.declared.Went.the-variants as W
-use Rattle.execute.specs.declared.Check.{Check}
-use Rattle.execute.specs.declared.Check.the-variants.{Unneeded, Needed}
-use Rattle.run.specs.Pending.{Lists, full, listing}
-use Rattle.run.specs.Step.{Rules, left, stepIn, stepOf}
+use Rattle.pending.specs.declared.Check.{Check}
+use Rattle.pending.specs.declared.Check.the-variants.{Unneeded, Needed}
+use Rattle.pending.specs.Pending.{Lists, full, listing}
+use Rattle.step.specs.Step.{Rules, left, stepIn, stepOf}
 use Rattle.run.specs.Run.{Answer, answer, after, goesOn, stopOf, counted, following, loop}
 use Rattle.run.specs.Leg.{Leg, leg, later, unneeded, passing, legIn}
 

@@ -6,9 +6,9 @@ use Rattle.execute.specs.World.{World, worldOf, Stepped}
 use Rattle.execute.specs.declared.Mode.{Mode}
 use Rattle.execute.specs.declared.Went.{Went}
 use Rattle.execute.specs.declared.Went.the-variants as W
-use Rattle.execute.specs.declared.Check.{Check}
-use Rattle.execute.specs.declared.Check.the-variants.{Unneeded, Needed}
-use Rattle.run.specs.Step.{Rules, stepIn}
+use Rattle.pending.specs.declared.Check.{Check}
+use Rattle.pending.specs.declared.Check.the-variants.{Unneeded, Needed}
+use Rattle.step.specs.Step.{Rules, stepIn}
 use Rattle.run.specs.Run.{goesOn, counted}
 use Rattle.run.specs.declared.leg.Gone.{Gone}
 

@@ -1,4 +1,2 @@
-pub mod Pending
-pub mod Step
 pub mod Run
 pub mod Leg

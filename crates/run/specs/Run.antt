@@ -10,8 +10,8 @@ use Rattle.execute.specs.Execute.{admits}
 use Rattle.execute.specs.declared.Mode.{Mode}
 use Rattle.execute.specs.declared.Went.{Went}
 use Rattle.execute.specs.declared.Went.the-variants as W
-use Rattle.run.specs.Pending.{Lists, lists, listsFit}
-use Rattle.run.specs.Step.{Rules, Left, stepOf}
+use Rattle.pending.specs.Pending.{Lists, lists, listsFit}
+use Rattle.step.specs.Step.{Rules, Left, stepOf}
 use Rattle.run.specs.declared.Ran.{Ran}
 
 pub record Answer : Type 0 where

@@ -1,15 +1,15 @@
 // A leg of a run, by value: the check that ends it is given back, for a caller that lists in another form.
 use crate::counted;
 use crate::goes_on;
-use crate::step_in;
-use execute::Check;
 use execute::Mode;
 use execute::Went;
+use pending::Check;
 use state::State;
+use step::step_in;
 ghost use mathlib.Core.Path.{_≡_};
 ghost use mathlib.Core.Bool.{_&&_};
 ghost use Rattle.execute.specs.World.{worldOf};
-ghost use Rattle.run.specs.Step.{documentRules};
+ghost use Rattle.step.specs.Step.{documentRules};
 ghost use Rattle.run.specs.Run.{goesOn};
 ghost use Rattle.run.specs.Leg.{unneeded, legIn, gone};
 

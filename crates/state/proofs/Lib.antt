@@ -1,4 +1,3 @@
 pub mod Files
 pub mod Below
-pub mod Cases
 pub mod Normal

@@ -80,6 +80,11 @@ unfolding kept heldOf
 kept-held true v = omega arith
 kept-held false v = refl
 
+pub waits-held : (f : Bool) (v : ℕ) → waits (heldOf f v) ≡ f
+unfolding waits heldOf
+waits-held true v = refl
+waits-held false v = refl
+
 pub held-kept : (h : Held) → lowOf h < 2 ^ 30 → heldOf (waits h) (kept h) ≡ h
 unfolding kept heldOf waits lowOf
 held-kept (Whole n) l = refl

@@ -1,4 +1,3 @@
 pub mod Held
 pub mod Registers
 pub mod Formed
-pub mod Normalizing

@@ -3,7 +3,6 @@ ghost use mathlib.Core.Path.{_≡_};
 ghost use Rattle.state.specs.Formed.{freshAt};
 
 pub mod formed; // formed.rt: the states that refusal 9 turns away
-pub mod normalize; // normalize.rt: normalize.rs, over a state by value
 pub mod registers; // registers.rt: the registers, in three lent arrays
 
 // A whole register is kept as its value, an accumulated one as low + 2^30 * high.

@@ -173,8 +173,8 @@ fn leave(r: Ran, state: &mut [u8], answer: &mut [u8]) -> u64 {
     let stop = r.stop;
     let after = r.state;
     let code = refusal::code(stop);
-    host::layout::write_state(state, after);
-    host::answer::write_answer(answer, code, r.steps, refusal::particular_at(stop));
+    layout::writing::write_state(state, after);
+    layout::answer::write_answer(answer, code, r.steps, refusal::particular_at(stop));
     code
 }
 
@@ -195,7 +195,7 @@ fn run_listed(
     let p = room_within(call.room, &pcs);
     let r = run_by(
         call,
-        host::layout::read_state(state),
+        layout::reading::read_state(state),
         m,
         &mut values[..v],
         &mut widths[..w],

@@ -6,15 +6,15 @@ use denote.Struct.Laws as LL
 use denote.Enum.Laws as EL
 use mathlib.Core.Bool.{_||_}
 use lib.Dec.{leb, ltb}
-use Rattle.run.specs.Pending.{entryAt}
-use Rattle.run.specs.declared.pending.Entry.{Entry}
-use Rattle.run.specs.declared.pending.Entry.the-variants.{Check, Nothing}
+use Rattle.pending.specs.Pending.{entryAt}
+use Rattle.pending.specs.declared.Entry.{Entry}
+use Rattle.pending.specs.declared.Entry.the-variants.{Check, Nothing}
 use Rattle.checks.specs.Records.{listed}
 use Rattle.checks.specs.declared.Pending.{Pending}
 use Rattle.checks.proofs.Listed.{none, no-entry, entry-is}
 use Rattle.checks.proofs.Noting.{valsP}
-use Rattle.run.proofs.pending.Entry as N
-use Rattle.run.proofs.pending.Entry.Laws as N′
+use Rattle.pending.proofs.Entry as N
+use Rattle.pending.proofs.Entry.Laws as N′
 use Rattle.checks.proofs.Pending as K
 use Rattle.checks.proofs.Pending.Laws as K′
 use Rattle.checks.proofs.beyond as beyond

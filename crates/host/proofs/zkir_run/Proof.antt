@@ -30,17 +30,8 @@ read-state-requires c κs = search needs
 run-by-requires : tie.Need-run-by-requires
 run-by-requires c κs = search needs
 
-code-requires : tie.Need-code-requires
-code-requires c κs = search needs
-
-write-state-requires : tie.Need-write-state-requires
-write-state-requires c κs = search needs
-
-particular-at-requires : tie.Need-particular-at-requires
-particular-at-requires c κs = search needs
-
-write-answer-requires-2 : tie.Need-write-answer-requires-2
-write-answer-requires-2 c κs = search needs
+leave-requires : tie.Need-leave-requires
+leave-requires c κs = search needs
 
 same-length-3 : tie.Need-same-length-3
 same-length-3 c = search needs
@@ -53,8 +44,12 @@ same-length-5 c = search needs
 
 returns-2 : tie.Need-returns-2
 unfolding taken
-returns-2 c = let r = c .before .before .before .before .before .before .before .before .before .before .before .before .before .run-by in
-    call-served _ _ _ _ _ (answer (r .result .stop) (r .result .steps) (worldOf (r .result .state) (r .last .1 .1 .1 .0)) none) _ _ _ _ (sym (c .before .before .before .before .before .before .before .before .before .before .before .before .before .before .before .before .before .before .takes .ensures) ∙ not-false _ (c .before .before .before .before .before .before .before .before .before .before .before .before .before .before .before .before .before .if1 .left)) (rw (← c .before .before .before .before .before .before .before .before .before .before .before .before .before .before .before .read-state .ensures) (r .ensures)) (c .before .before .before .before .before .before .before .before .before .code .ensures) (c .before .before .before .particular-at .ensures) (c .before .before .before .before .before .before .before .write-state .ensures) (c .before .before .write-answer2 .ensures)
+returns-2 c =
+    let r = c .before .before .before .before .before .before .before .before .before .run-by in
+    let l = c .before .before .before .before .leave .ensures in
+    call-served _ _ _ _ _ (answer (r .result .stop) (r .result .steps) (worldOf (r .result .state) (r .last .1 .1 .1 .0)) none) _ _ _
+    (sym (c .before .before .before .before .before .before .before .before .before .before .before .before .before .before .takes .ensures) ∙ not-false _ (c .before .before .before .before .before .before .before .before .before .before .before .before .before .if1 .left))
+    (rw (← c .before .before .before .before .before .before .before .before .before .before .before .read-state .ensures) (r .ensures)) (l .0) (l .1) (l .2)
 
 pub zkir-run-spec : {M : Type 1} → statement M
 zkir-run-spec =
@@ -67,10 +62,7 @@ zkir-run-spec =
     returns
     read-state-requires
     run-by-requires
-    code-requires
-    write-state-requires
-    particular-at-requires
-    write-answer-requires-2
+    leave-requires
     same-length-3
     same-length-4
     same-length-5

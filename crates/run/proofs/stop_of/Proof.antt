@@ -1,19 +1,18 @@
 use Rattle.run.specs.Run.{stopOf}
-use borrow.Author.Needs.{needs}
 use Rattle.run.proofs.stop_of.Statement.{statement}
 use Rattle.run.proofs.stop_of.Tie as tie
 
 enum-told : tie.Need-enum-told
-enum-told c = search needs
+enum-told c = c .match .keys1
 
 enum-told-2 : tie.Need-enum-told-2
-enum-told-2 c = search needs
+enum-told-2 c = c .match .keys2
 
 enum-told-3 : tie.Need-enum-told-3
-enum-told-3 c = search needs
+enum-told-3 c = c .match .keys3
 
 enum-known-went : tie.Need-enum-known-went
-enum-known-went c = search needs
+enum-known-went c = c .match .keys4
 
 returns : tie.Need-returns
 unfolding stopOf

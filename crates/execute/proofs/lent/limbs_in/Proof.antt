@@ -1,4 +1,4 @@
-use Rattle.execute.specs.Deferred.{limbsIn}
+use Rattle.execute.specs.Modes.{limbsIn}
 use borrow.Author.Needs.{needs}
 use Rattle.execute.proofs.lent.limbs_in.Statement.{statement}
 use Rattle.execute.proofs.lent.limbs_in.Tie as tie

@@ -1,4 +1,4 @@
-use Rattle.host.specs.Layout.{markOf}
+use Rattle.layout.specs.Layout.{markOf}
 use Rattle.lent.proofs.exported.kind_of.Statement.{statement}
 use Rattle.lent.proofs.exported.kind_of.Tie as tie
 

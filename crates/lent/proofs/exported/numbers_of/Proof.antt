@@ -6,8 +6,8 @@ use mathlib.Core.Bool.{false}
 use lib.ListN.{getD, replicate}
 use lib.Seq.{sets}
 use Rattle.lent.specs.Lent.{numbersOf}
-use Rattle.host.specs.Layout.{table, markOf}
-use Rattle.host.proofs.Rows.{table-more, filled}
+use Rattle.layout.specs.Layout.{table, markOf}
+use Rattle.layout.proofs.Rows.{table-more, filled}
 use Rattle.lent.proofs.exported.numbers_of.Statement.{statement}
 use Rattle.lent.proofs.exported.numbers_of.Tie as tie
 

@@ -7,8 +7,8 @@ use lib.ListN.{getD, replicate}
 use lib.Seq.{sets}
 use lib.Dec.{eqb}
 use Rattle.lent.specs.Lent.{stateIn}
-use Rattle.host.specs.Layout.{table}
-use Rattle.host.proofs.Rows.{table-more, filled}
+use Rattle.layout.specs.Layout.{table}
+use Rattle.layout.proofs.Rows.{table-more, filled}
 use Rattle.lent.proofs.exported.state_in.Statement.{statement}
 use Rattle.lent.proofs.exported.state_in.Tie as tie
 

@@ -1,14 +1,14 @@
--- `lent::exported::zkir_step` meets its contract: a walk of its MIR, by hand. The record's borrow is opened and the record copied out; `prepare` makes a state of it, which `checks::machine::step` steps with the slices' own borrows; what `conclude` makes of the step is stored over the cell, and the borrow is closed there.
+-- `lent::exported::zkir_step` meets its contract: a walk of its MIR, by hand. The record's borrow is opened and the record copied out; `prepare` makes a state of it, which `checked::step` steps with the slices' own borrows; what `conclude` makes of the step is stored over the cell, and the borrow is closed there.
 -- No field of the state or of the record is named.
 -- Assumes nothing.
 use Rattle.walks.proofs.Walk.{ !, Atoms, Body, Calls, Contract, FmC, Fun, GName, Given, Heap, Is, Lft, List, Loops, Meets, Memory, MutRef, MutSlice, RefT, Room, Routine, SProp, Share, Stays, Tables, Triple, URA, Val, Walks, WpFn, WpFn-mono, [], _$_, _<_, _^_, _∵_, _∷_, _≡_, _⊛_, addr, agg, alloc0, alloc1, and-then, ap, assigns, await, by, calls-at, cited, closes, done, drop, emp, ends-at, ensured, ent, enter, entered, fact, fat, fbor, feqI, feqL, finally, fjoin, fjoin3, fld, flft, fmOf, fobs, forget, frame, free0, free1, from, fsplit, fsplit3, fst∗, ftrue, fullShare, gave-slice, givenOf, goes-gave-slice, goes-none, goes-ref, heard, hop, id⊢, init, join, keep, land, lasts, later, length, load, look, look-in, look-raw, mem, move, mut-slice-tells, mut-tells, named, no-more, nothing, of-opd, onEntry, only, opens, owned, owns, params1, pass0, pass1, peeks, pick, plain, ptr-vals, qed, raw, refl, returns, rewrite, says, shows, slice-vals, sliceVal, some, spelt, split, stay-none, stay-ref, stop, store-raw, sub, subst, suffices, tables, tablesOf, tripleOf, u64, u8, uint-makes, uint-tells, uint-vals, use0, use1, use3, usize, via, vint, vptr, w64, walk-meets, walkOf, walked, whole, yes, ‵, ℕ, ⋆}
 use denote.Struct.Laws as LL
 use denote.Enum.Laws as EL
 use Rattle.execute.specs.World.{worldOf}
-use Rattle.run.specs.Step.{documentRules, step as steps}
-use Rattle.run.specs.declared.OneStep.{OneStep}
+use Rattle.step.specs.Step.{documentRules, step as steps}
+use Rattle.step.specs.declared.OneStep.{OneStep}
 use Rattle.checks.specs.Records.{listed}
-use Rattle.checks.specs.Machine.{steppedOver}
+use Rattle.checked.specs.Machine.{steppedOver}
 use Rattle.checks.specs.declared.Pending.{Pending}
 use Rattle.lent.proofs.Stepping.{valsM, valsS, Step, asked, to-step, goes-step}
 use Rattle.lent.specs.Lent.{readied, concluded}
@@ -20,8 +20,8 @@ use Rattle.execute.proofs.Mode as O
 use Rattle.execute.proofs.Mode.Laws as O′
 use Rattle.state.proofs.State as T
 use Rattle.state.proofs.State.Laws as T′
-use Rattle.run.proofs.OneStep as N
-use Rattle.run.proofs.OneStep.Laws as N′
+use Rattle.step.proofs.OneStep as N
+use Rattle.step.proofs.OneStep.Laws as N′
 use Rattle.checks.proofs.Pending as K
 use Rattle.lent.proofs.exported.Lent as L
 use Rattle.lent.proofs.exported.Lent.Laws as L′
@@ -31,10 +31,10 @@ use Rattle.lent.proofs.exported.Ready as R
 use Rattle.lent.proofs.exported.Ready.Laws as R′
 use Rattle.lent.proofs.exported.Done as D
 use Rattle.lent.proofs.exported.Done.Laws as D′
-use Rattle.checks.proofs.machine.step as step
-use Rattle.checks.proofs.machine.step.Symbol as step-def
-use Rattle.checks.proofs.machine.step.Symbol.{name as #step}
-use Rattle.checks.proofs.machine.step.Met as step-thm
+use Rattle.checked.proofs.step as step
+use Rattle.checked.proofs.step.Symbol as step-def
+use Rattle.checked.proofs.step.Symbol.{name as #step}
+use Rattle.checked.proofs.step.Met as step-thm
 use Rattle.lent.proofs.exported.prepare as prepare
 use Rattle.lent.proofs.exported.prepare.Symbol as prepare-def
 use Rattle.lent.proofs.exported.prepare.Symbol.{name as #prepare}
@@ -189,5 +189,5 @@ zkir-step-spec 𝓤 H 𝓜 𝓖 𝓡 =
     (tables 𝓤 H 𝓜 𝓡 code.env .C) (tables 𝓤 H 𝓜 𝓡 code.env .Λ) #zkir-step code.function (code.unfolded 𝓤 H 𝓜 𝓡)
     (self-meets 𝓤 H (𝓖 .A) (givenOf 𝓤 H 𝓜 𝓖) (𝓜 .mem) (𝓡 .run) (tablesOf 𝓤 H 𝓜 (tables 𝓤 H 𝓜 𝓡 code.env))
     (cited 𝓤 H (Prepare 𝓤 H (𝓖 .A) (𝓜 .mem) (𝓡 .run)) 𝓜 𝓡 code.env #prepare prepare-def.routine code.calls-lent·exported·prepare (prepare-thm.met 𝓤 H 𝓜 𝓖 𝓡))
-    (cited 𝓤 H (Step 𝓤 H (𝓖 .A) (𝓜 .mem) (𝓡 .run)) 𝓜 𝓡 code.env #step step-def.routine code.calls-checks·machine·step (step-thm.met 𝓤 H 𝓜 𝓖 𝓡))
+    (cited 𝓤 H (Step 𝓤 H (𝓖 .A) (𝓜 .mem) (𝓡 .run)) 𝓜 𝓡 code.env #step step-def.routine code.calls-checked·step (step-thm.met 𝓤 H 𝓜 𝓖 𝓡))
     (cited 𝓤 H (Conclude 𝓤 H (𝓖 .A) (𝓜 .mem) (𝓡 .run)) 𝓜 𝓡 code.env #conclude conclude-def.routine code.calls-lent·exported·conclude (conclude-thm.met 𝓤 H 𝓜 𝓖 𝓡)))

@@ -1,13 +1,14 @@
-use borrow.Author.Needs.{needs}
 use borrow.Author.Tests.{not-true, not-false}
 use native.Mathlib.Omega.{arith}
 use mathlib.Core.Path.{_≡_, refl, sym, _∙_}
 use Prim.Native.Nat.{_≤_, _-_}
+use native.Mathlib.Nat.{le-refl}
 use lib.ListN.{length}
 use Rattle.state.specs.Registers.{registers}
 use Rattle.execute.specs.World.{world}
-use Rattle.run.specs.Step.{documentRules}
+use Rattle.step.specs.Step.{documentRules}
 use Rattle.run.specs.Leg.{later, legIn}
+use Rattle.run.proofs.Loops.{one-more, less-left, steps-fit}
 use Rattle.run.proofs.Legs.{passes-on, ends, runs-dry, begins}
 use Rattle.run.proofs.leg.advance.Statement.{statement}
 use Rattle.run.proofs.leg.advance.Tie as tie
@@ -26,37 +27,37 @@ loop-holds : tie.Need-loop-holds Inv-loop μ-loop
 loop-holds c = (refl, omega arith, begins _ _ _ _ _)
 
 step-in-requires : tie.Need-step-in-requires Inv-loop μ-loop
-step-in-requires c κs = search needs
+step-in-requires c κs = tt
 
 passes-requires : tie.Need-passes-requires Inv-loop μ-loop
-passes-requires c κs = search needs
+passes-requires c κs = tt
 
 counted-requires : tie.Need-counted-requires Inv-loop μ-loop
-counted-requires c κs = search needs
+counted-requires c κs = tt
 
 add-steps : tie.Need-add-steps Inv-loop μ-loop
-add-steps c = omega (arith, c .before .before .before .before .before .before .before .before .before .before .loop-test .taken, c .counted .ensures .1, c .before .before .before .before .before .before .before .before .before .before .before .before .before .before .before .before .fits .fuel)
+add-steps c = steps-fit _ _ _ (c .before .before .before .before .before .before .before .before .before .before .loop-test .taken) (c .counted .ensures .1) (c .before .before .before .before .before .before .before .before .before .before .before .before .before .before .before .before .fits .fuel)
 
 same-length : tie.Need-same-length Inv-loop μ-loop
-same-length c = omega arith
+same-length c = c .before .before .before .before .m .given ∙ c .before .before .before .before .before .before .before .before .before .before .before .loop .inv .0
 
 returns : tie.Need-returns Inv-loop μ-loop
-returns c = rw (c .counted .ensures .0) (sym (sym (c .before .before .before .before .before .before .before .before .before .before .before .loop .inv .2) ∙ ends _ _ _ (c .before .before .before .before .before .before .before .before .before .before .before .before .before .before .before .before .args .fuel) (c .before .before .before .before .before .before .before .before .before .before .before .loop .n) _ _ _ _ (omega arith) (c .before .before .before .before .before .step-in .ensures) (sym (c .before .before .passes .ensures) ∙ not-true _ (c .before .if1 .taken))))
+returns c = rw (c .counted .ensures .0) (sym (sym (c .before .before .before .before .before .before .before .before .before .before .before .loop .inv .2) ∙ ends _ _ _ (c .before .before .before .before .before .before .before .before .before .before .before .before .before .before .before .before .args .fuel) (c .before .before .before .before .before .before .before .before .before .before .before .loop .n) _ _ _ _ (c .before .before .before .before .before .before .before .before .before .before .loop-test .taken) (c .before .before .before .before .before .step-in .ensures) (sym (c .before .before .passes .ensures) ∙ not-true _ (c .before .if1 .taken))))
 
 add-n : tie.Need-add-n Inv-loop μ-loop
-add-n c = omega (arith, c .before .before .before .before .before .before .before .before .before .loop-test .taken, c .before .before .before .before .before .before .before .before .before .before .before .before .before .before .before .fits .fuel)
+add-n c = steps-fit _ _ _ (c .before .before .before .before .before .before .before .before .before .loop-test .taken) (le-refl 1) (c .before .before .before .before .before .before .before .before .before .before .before .before .before .before .before .fits .fuel)
 
 loop-less : tie.Need-loop-less Inv-loop μ-loop
-loop-less c = omega arith
+loop-less c = less-left _ _ (c .before .before .before .before .before .before .before .before .before .loop-test .taken)
 
 loop-again : tie.Need-loop-again Inv-loop μ-loop
-loop-again c = (omega arith, omega arith, sym (passes-on _ _ _ (c .before .before .before .before .before .before .before .before .before .before .before .before .before .before .before .args .fuel) (c .before .before .before .before .before .before .before .before .before .before .loop .n) _ _ _ _ (omega arith) (c .before .before .before .before .step-in .ensures) (sym (c .before .passes .ensures) ∙ not-false _ (c .if1 .left))) ∙ c .before .before .before .before .before .before .before .before .before .before .loop .inv .2)
+loop-again c = (c .before .before .before .m .given ∙ c .before .before .before .before .before .before .before .before .before .before .loop .inv .0, one-more _ _ (c .before .before .before .before .before .before .before .before .before .loop-test .taken), sym (passes-on _ _ _ (c .before .before .before .before .before .before .before .before .before .before .before .before .before .before .before .args .fuel) (c .before .before .before .before .before .before .before .before .before .before .loop .n) _ _ _ _ (c .before .before .before .before .before .before .before .before .before .loop-test .taken) (c .before .before .before .before .step-in .ensures) (sym (c .before .passes .ensures) ∙ not-false _ (c .if1 .left))) ∙ c .before .before .before .before .before .before .before .before .before .before .loop .inv .2)
 
 same-length-2 : tie.Need-same-length-2 Inv-loop μ-loop
-same-length-2 c = omega arith
+same-length-2 c = c .before .loop .inv .0
 
 returns-2 : tie.Need-returns-2 Inv-loop μ-loop
-returns-2 c = sym (sym (c .before .loop .inv .2) ∙ runs-dry _ _ _ (c .before .before .before .before .before .before .args .fuel) _ (c .before .loop .n) (omega arith))
+returns-2 c = sym (sym (c .before .loop .inv .2) ∙ runs-dry _ _ _ (c .before .before .before .before .before .before .args .fuel) _ (c .before .loop .n) (c .loop-test .left))
 
 pub advance-spec : {M : Type 1} → statement M
 advance-spec =

@@ -1,21 +1,20 @@
 use mathlib.Core.Path.{sym, _∙_}
 use borrow.Author.Tests.{not-true, not-false}
 use Rattle.run.specs.Leg.{unneeded}
-use borrow.Author.Needs.{needs}
 use Rattle.run.proofs.leg.passes.Statement.{statement}
 use Rattle.run.proofs.leg.passes.Tie as tie
 
 goes-on-requires : tie.Need-goes-on-requires
-goes-on-requires c κs = search needs
+goes-on-requires c κs = tt
 
 returns : tie.Need-returns
 returns c = rw (sym (c .before .goes-on .ensures) ∙ not-true _ (c .if1 .taken))
 
 enum-told : tie.Need-enum-told
-enum-told c = search needs
+enum-told c = c .match .keys1
 
 enum-told-2 : tie.Need-enum-told-2
-enum-told-2 c = search needs
+enum-told-2 c = c .match .keys2
 
 returns-2 : tie.Need-returns-2
 unfolding unneeded

@@ -1,0 +1,4 @@
+pub mod Waiting
+pub mod Forms
+pub mod Seeing
+pub mod Staying

@@ -1,0 +1,3 @@
+pub mod Limbs
+pub mod Plan
+pub mod Sources

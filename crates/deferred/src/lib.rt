@@ -1,0 +1,123 @@
+// Add, Sub and Addi on limbs, as deferred.rs has them with document 01's changes. An accumulated register is kept as
+// low + 2^30 * high. What is kept is decided before anything changes.
+use instruction::Parts;
+use opcode::Opcode;
+use state::registers;
+use sums::Operand;
+use sums::Plan;
+ghost use mathlib.Core.Path.{_≡_};
+ghost use mathlib.Core.Bool.{true, cond};
+ghost use Rattle.state.specs.Registers.{registers, heldAt, boundAt, normalise, Becomes};
+ghost use Rattle.effect.specs.Notes.{documentNotes};
+ghost use Rattle.instruction.specs.Operands.{joinedOf};
+ghost use Rattle.instruction.specs.declared.Instruction.the-variants.{Sub};
+ghost use Rattle.deferred.specs.Limbs.{added, addedImm, limbed, limbs};
+ghost use Rattle.deferred.specs.Plan.{operand, Small, written, carried};
+
+pub mod sources; // sources.rt: what every other instruction normalises first
+mod sums; // sums.rt: the sums and differences of limbs, in numbers alone
+
+fn operand_at<'a>(
+    regs: &'a [u64; 16],
+    accumulated: &'a [bool; 16],
+    bounds: &'a [u8; 16],
+    n: u8,
+) -> Operand
+    ensures { λ r. ⌜ (r ≡ operand (heldAt (now (regs .entry)) (now (accumulated .entry)) n) (boundAt (now (bounds .entry)) n)) × Small r ⌝ }
+{
+    Operand {
+        low: registers::low_at(regs, accumulated, n),
+        high: registers::high_at(regs, accumulated, n),
+        bound: registers::bound_at(bounds, n),
+    }
+}
+
+fn add<'a>(p: Parts, regs: &'a [u64; 16], accumulated: &'a [bool; 16], bounds: &'a [u8; 16]) -> Plan
+    ensures { λ r. ⌜ carried r (p .a) (p .b) (registers (now (regs .entry)) (now (accumulated .entry)) (now (bounds .entry))) ≡ limbed true (added documentNotes (p .a) (p .b) (p .c) (registers (now (regs .entry)) (now (accumulated .entry)) (now (bounds .entry)))) ⌝ }
+{
+    sums::sum(
+        operand_at(regs, accumulated, bounds, p.b),
+        operand_at(regs, accumulated, bounds, p.c),
+        p.c,
+    )
+}
+
+fn add_immediate<'a>(
+    p: Parts,
+    regs: &'a [u64; 16],
+    accumulated: &'a [bool; 16],
+    bounds: &'a [u8; 16],
+) -> Plan
+    ensures { λ r. ⌜ carried r (p .a) (p .b) (registers (now (regs .entry)) (now (accumulated .entry)) (now (bounds .entry))) ≡ limbed true (addedImm documentNotes (p .a) (p .b) (p .imm) (registers (now (regs .entry)) (now (accumulated .entry)) (now (bounds .entry)))) ⌝ }
+{
+    sums::sum(
+        operand_at(regs, accumulated, bounds, p.b),
+        sums::constant(p.imm),
+        0,
+    )
+}
+
+fn sub<'a>(p: Parts, regs: &'a [u64; 16], accumulated: &'a [bool; 16], bounds: &'a [u8; 16]) -> Plan
+    ensures { λ r. ⌜ carried r (p .a) (p .b) (registers (now (regs .entry)) (now (accumulated .entry)) (now (bounds .entry))) ≡ limbs documentNotes (Sub (p .a) (p .b) (p .c)) (registers (now (regs .entry)) (now (accumulated .entry)) (now (bounds .entry))) ⌝ }
+{
+    sums::difference(
+        operand_at(regs, accumulated, bounds, p.b),
+        operand_at(regs, accumulated, bounds, p.c),
+    )
+}
+
+fn plan_of<'a>(
+    p: Parts,
+    regs: &'a [u64; 16],
+    accumulated: &'a [bool; 16],
+    bounds: &'a [u8; 16],
+) -> Plan
+    ensures { λ r. ⌜ carried r (p .a) (p .b) (registers (now (regs .entry)) (now (accumulated .entry)) (now (bounds .entry))) ≡ limbs documentNotes (joinedOf p) (registers (now (regs .entry)) (now (accumulated .entry)) (now (bounds .entry))) ⌝ }
+{
+    let op = p.op;
+    match op {
+        Opcode::Add => add(p, regs, accumulated, bounds),
+        Opcode::Sub => sub(p, regs, accumulated, bounds),
+        Opcode::Addi => add_immediate(p, regs, accumulated, bounds),
+        _ => sums::unplanned(),
+    }
+}
+
+fn normalise_if(forced: bool, regs: &mut [u64; 16], accumulated: &mut [bool; 16], rs1: u8, rs2: u8)
+    ensures { λ _. ⌜ Becomes (λ R. cond forced (normalise rs2 (normalise rs1 R)) R) (now (regs .entry)) (now (accumulated .entry)) (now (regs .exit)) (now (accumulated .exit)) ⌝ }
+{
+    if forced {
+        sources::normalise_two(regs, accumulated, rs1, rs2);
+    }
+}
+
+fn carry_out(
+    k: Plan,
+    rd: u8,
+    rs1: u8,
+    regs: &mut [u64; 16],
+    accumulated: &mut [bool; 16],
+    bounds: &mut [u8; 16],
+)
+    ensures { λ _. ⌜ registers (now (regs .exit)) (now (accumulated .exit)) (now (bounds .exit)) ≡ written k rd rs1 (registers (now (regs .entry)) (now (accumulated .entry)) (now (bounds .entry))) ⌝ }
+{
+    normalise_if(k.forced, regs, accumulated, rs1, k.rs2);
+    registers::write(regs, accumulated, bounds, rd, k.kept, true, k.bound);
+}
+
+// Executes the instruction on limbs, if it has that form here, and says whether it did.
+pub fn limbs(
+    p: Parts,
+    regs: &mut [u64; 16],
+    accumulated: &mut [bool; 16],
+    bounds: &mut [u8; 16],
+) -> bool
+    ensures { λ r. ⌜ limbed r (registers (now (regs .exit)) (now (accumulated .exit)) (now (bounds .exit))) ≡ limbs documentNotes (joinedOf p) (registers (now (regs .entry)) (now (accumulated .entry)) (now (bounds .entry))) ⌝ }
+{
+    let k = plan_of(p, regs, accumulated, bounds);
+    if k.waits {
+        carry_out(k, p.a, p.b, regs, accumulated, bounds);
+        return true;
+    }
+    false
+}

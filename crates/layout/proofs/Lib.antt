@@ -1,0 +1,6 @@
+pub mod Rows
+pub mod Numbers
+pub mod Stored
+pub mod Tests
+pub mod Contents
+pub mod Round

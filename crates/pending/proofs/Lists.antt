@@ -1,0 +1,67 @@
+-- The cases of the pending lists, from the tests that the code makes.
+use Prim.Native.Nat.{ℕ, _+_, _<_, _≤_}
+use mathlib.Core.Path.{_≡_, refl, sym}
+use mathlib.Core.Bool.{Bool, true, false, not, _&&_}
+use lib.ListN.{length, set, getD}
+use native.Mathlib.Omega.{arith}
+use lib.Dec.{leb, eqb}
+use borrow.Author.Tests.{lt-ltb, le-ltb, eqb-true, leb-true}
+use Rattle.refusal.specs.Stops.{refusalOf}
+use Rattle.pending.specs.Pending.{Lists, lists, listsFit, fullAt, full, appended, appendAnswer, appendLists, entryAt}
+use Rattle.pending.specs.declared.Appended.the-variants as A
+use Rattle.pending.specs.declared.Entry.the-variants as E
+
+no-room : (room count : ℕ) → fullAt room count ≡ true → room ≤ count
+no-room room count e = told (eqb room 0) e
+  where
+    told : (t : Bool) → (not t && leb room count) ≡ true → room ≤ count
+    told true f = let z : _≡_ {A = ℕ} 0 1 = cc in absurd (omega arith)
+    told false f = leb-true _ _ f
+
+module _ (v b pc : ℕ) (l : Lists) where
+  pub no-place : length (l .values) ≤ l .count → l ≡ appended v b pc l
+  unfolding appended
+  no-place h = rw (le-ltb (l .count) (length (l .values)) h)
+
+  pub a-place : l .count < length (l .values)
+      → lists (l .count + 1) (set (l .values) (l .count) v) (set (l .bounds) (l .count) b) (set (l .pcs) (l .count) pc) ≡ appended v b pc l
+  unfolding appended
+  a-place h = rw (lt-ltb (l .count) (length (l .values)) h)
+
+  pub append-malformed : listsFit l ≡ false → (A.Refused (refusalOf 9 0) ≡ appendAnswer v b pc l) × (appendLists v b pc l ≡ l)
+  unfolding appendAnswer appendLists
+  append-malformed e = rw e (refl, refl)
+
+  pub append-full : listsFit l ≡ true → full l ≡ true → (A.Refused (refusalOf 8 pc) ≡ appendAnswer v b pc l) × (appendLists v b pc l ≡ l)
+  unfolding appendAnswer appendLists
+  append-full e f = rw (e, f) (refl, sym (no-place (no-room (length (l .values)) (l .count) f)))
+
+  pub append-done : listsFit l ≡ true → full l ≡ false
+      → (A.At ((appended v b pc l) .count) ≡ appendAnswer v b pc l) × (appendLists v b pc l ≡ appended v b pc l)
+  unfolding appendAnswer appendLists
+  append-done e f = rw (e, f) (refl, refl)
+
+module _ (n : ℕ) (l : Lists) where
+  pub entry-malformed : listsFit l ≡ false → E.Nothing ≡ entryAt n l
+  unfolding entryAt
+  entry-malformed e = rw e
+
+  pub entry-beyond : listsFit l ≡ true → l .count ≤ n → E.Nothing ≡ entryAt n l
+  unfolding entryAt
+  entry-beyond e h = rw (e, le-ltb n (l .count) h)
+
+  pub entry-there : listsFit l ≡ true → n < l .count → E.Check (getD (l .values) n 0) (getD (l .bounds) n 0) (getD (l .pcs) n 0) ≡ entryAt n l
+  unfolding entryAt
+  entry-there e h = rw (e, lt-ltb n (l .count) h)
+
+-- the test, as facts
+pub fits-mean : (l : Lists) → listsFit l ≡ true
+    → (length (l .bounds) ≡ length (l .values)) × (length (l .pcs) ≡ length (l .values)) × (l .count ≤ length (l .values))
+fits-mean l e = told (eqb (length (l .bounds)) (length (l .values))) (eqb (length (l .pcs)) (length (l .values))) refl refl e
+  where
+    told : (a b : Bool) → eqb (length (l .bounds)) (length (l .values)) ≡ a → eqb (length (l .pcs)) (length (l .values)) ≡ b
+        → (a && b && leb (l .count) (length (l .values))) ≡ true
+        → (length (l .bounds) ≡ length (l .values)) × (length (l .pcs) ≡ length (l .values)) × (l .count ≤ length (l .values))
+    told true true p q t = (eqb-true _ _ p, eqb-true _ _ q, leb-true _ _ t)
+    told true false p q t = let z : _≡_ {A = ℕ} 0 1 = cc in absurd (omega arith)
+    told false b p q t = let z : _≡_ {A = ℕ} 0 1 = cc in absurd (omega arith)

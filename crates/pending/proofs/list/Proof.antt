@@ -1,0 +1,42 @@
+use Rattle.pending.specs.Pending.{listing}
+use Rattle.pending.proofs.list.Statement.{statement}
+use Rattle.pending.proofs.list.Tie as tie
+
+enum-told : tie.Need-enum-told
+enum-told c = c .match .keys1
+
+enum-known-check : tie.Need-enum-known-check
+enum-known-check c = c .match .keys2
+
+note-requires : tie.Need-note-requires
+note-requires c κs = tt
+
+returns : tie.Need-returns
+unfolding listing
+returns c = rw (c .enum-told .given .1)
+
+same-length : tie.Need-same-length
+same-length c = c .before .before .before .before .before .values .given
+
+same-length-2 : tie.Need-same-length-2
+same-length-2 c = c .before .before .before .widths .given
+
+same-length-3 : tie.Need-same-length-3
+same-length-3 c = c .before .pcs .given
+
+returns-2 : tie.Need-returns-2
+unfolding listing
+returns-2 c = rw (c .before .before .before .before .before .before .before .before .before .before .before .check .given .1) (c .before .before .before .before .before .before .note .ensures)
+
+pub list-spec : {M : Type 1} → statement M
+list-spec =
+    tie.close
+    (tie.spec
+    enum-told
+    enum-known-check
+    note-requires
+    returns
+    same-length
+    same-length-2
+    same-length-3
+    returns-2)

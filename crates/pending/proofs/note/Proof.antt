@@ -1,0 +1,46 @@
+use Rattle.pending.proofs.Lists.{no-place, a-place}
+use native.Mathlib.Omega.{arith}
+use borrow.Author.Needs.{needs}
+use Rattle.pending.proofs.note.Statement.{statement}
+use Rattle.pending.proofs.note.Tie as tie
+
+returns : tie.Need-returns
+returns c = no-place _ _ _ _ (omega arith)
+
+put-number-requires : tie.Need-put-number-requires
+put-number-requires c κs = tt
+
+put-width-requires : tie.Need-put-width-requires
+put-width-requires c κs = tt
+
+put-number-requires-2 : tie.Need-put-number-requires-2
+put-number-requires-2 c κs = tt
+
+add-result : tie.Need-add-result
+add-result c = search needs
+
+same-length : tie.Need-same-length
+same-length c = c .before .before .before .before .before .before .before .before .before .values .given
+
+same-length-2 : tie.Need-same-length-2
+same-length-2 c = c .before .before .before .before .before .widths .given
+
+same-length-3 : tie.Need-same-length-3
+same-length-3 c = c .before .pcs .given
+
+returns-2 : tie.Need-returns-2
+returns-2 c = rw (c .before .before .before .before .before .before .before .before .before .before .put-number .ensures, c .before .before .before .before .before .before .put-width .ensures, c .before .before .put-number2 .ensures) (a-place _ _ _ _ (omega arith))
+
+pub note-spec : {M : Type 1} → statement M
+note-spec =
+    tie.close
+    (tie.spec
+    returns
+    put-number-requires
+    put-width-requires
+    put-number-requires-2
+    add-result
+    same-length
+    same-length-2
+    same-length-3
+    returns-2)
