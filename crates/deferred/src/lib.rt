@@ -6,11 +6,12 @@ use state::registers;
 use sums::Operand;
 use sums::Plan;
 ghost use mathlib.Core.Path.{_≡_};
-ghost use mathlib.Core.Bool.{cond};
+ghost use mathlib.Core.Bool.{true, cond};
 ghost use Rattle.state.specs.Registers.{registers, heldAt, boundAt, normalise, Becomes};
 ghost use Rattle.effect.specs.Notes.{documentNotes};
 ghost use Rattle.instruction.specs.Operands.{joinedOf};
-ghost use Rattle.deferred.specs.Limbs.{limbed, limbs};
+ghost use Rattle.instruction.specs.declared.Instruction.the-variants.{Sub};
+ghost use Rattle.deferred.specs.Limbs.{added, addedImm, limbed, limbs};
 ghost use Rattle.deferred.specs.Plan.{operand, Small, written, carried};
 
 pub mod sources; // sources.rt: what every other instruction normalises first
@@ -31,6 +32,40 @@ fn operand_at<'a>(
     }
 }
 
+fn add<'a>(p: Parts, regs: &'a [u64; 16], accumulated: &'a [bool; 16], bounds: &'a [u8; 16]) -> Plan
+    ensures { λ r. ⌜ carried r (p .a) (p .b) (registers (now (regs .entry)) (now (accumulated .entry)) (now (bounds .entry))) ≡ limbed true (added documentNotes (p .a) (p .b) (p .c) (registers (now (regs .entry)) (now (accumulated .entry)) (now (bounds .entry)))) ⌝ }
+{
+    sums::sum(
+        operand_at(regs, accumulated, bounds, p.b),
+        operand_at(regs, accumulated, bounds, p.c),
+        p.c,
+    )
+}
+
+fn add_immediate<'a>(
+    p: Parts,
+    regs: &'a [u64; 16],
+    accumulated: &'a [bool; 16],
+    bounds: &'a [u8; 16],
+) -> Plan
+    ensures { λ r. ⌜ carried r (p .a) (p .b) (registers (now (regs .entry)) (now (accumulated .entry)) (now (bounds .entry))) ≡ limbed true (addedImm documentNotes (p .a) (p .b) (p .imm) (registers (now (regs .entry)) (now (accumulated .entry)) (now (bounds .entry)))) ⌝ }
+{
+    sums::sum(
+        operand_at(regs, accumulated, bounds, p.b),
+        sums::constant(p.imm),
+        0,
+    )
+}
+
+fn sub<'a>(p: Parts, regs: &'a [u64; 16], accumulated: &'a [bool; 16], bounds: &'a [u8; 16]) -> Plan
+    ensures { λ r. ⌜ carried r (p .a) (p .b) (registers (now (regs .entry)) (now (accumulated .entry)) (now (bounds .entry))) ≡ limbs documentNotes (Sub (p .a) (p .b) (p .c)) (registers (now (regs .entry)) (now (accumulated .entry)) (now (bounds .entry))) ⌝ }
+{
+    sums::difference(
+        operand_at(regs, accumulated, bounds, p.b),
+        operand_at(regs, accumulated, bounds, p.c),
+    )
+}
+
 fn plan_of<'a>(
     p: Parts,
     regs: &'a [u64; 16],
@@ -41,20 +76,9 @@ fn plan_of<'a>(
 {
     let op = p.op;
     match op {
-        Opcode::Add => sums::sum(
-            operand_at(regs, accumulated, bounds, p.b),
-            operand_at(regs, accumulated, bounds, p.c),
-            p.c,
-        ),
-        Opcode::Sub => sums::difference(
-            operand_at(regs, accumulated, bounds, p.b),
-            operand_at(regs, accumulated, bounds, p.c),
-        ),
-        Opcode::Addi => sums::sum(
-            operand_at(regs, accumulated, bounds, p.b),
-            sums::constant(p.imm),
-            0,
-        ),
+        Opcode::Add => add(p, regs, accumulated, bounds),
+        Opcode::Sub => sub(p, regs, accumulated, bounds),
+        Opcode::Addi => add_immediate(p, regs, accumulated, bounds),
         _ => sums::unplanned(),
     }
 }

@@ -1,41 +1,41 @@
 use Rattle.deferred.proofs.Forms.{no-limbs}
-use Rattle.deferred.proofs.Waiting.{sum-of-limbs}
-use Rattle.state.proofs.Files.{normalise-none}
-use Rattle.state.specs.Held.{lowOf, highOf}
 use Rattle.opcode.specs.Opcodes.{all}
-use Rattle.deferred.specs.Limbs.{limbed, limbs}
-use mathlib.Core.Bool.{true}
-use mathlib.Core.Path.{refl, ap, _∙_}
+use Rattle.deferred.specs.Limbs.{limbs}
 use borrow.Author.Needs.{needs}
 use Rattle.deferred.proofs.plan_of.Statement.{statement}
 use Rattle.deferred.proofs.plan_of.Tie as tie
 
-sum-requires : tie.Need-sum-requires
-sum-requires c κs = search needs
+enum-told : tie.Need-enum-told
+enum-told c = search needs
 
-difference-requires : tie.Need-difference-requires
-difference-requires c κs = search needs
+add-requires : tie.Need-add-requires
+add-requires c κs = search needs
 
-sum-requires-2 : tie.Need-sum-requires-2
-sum-requires-2 c κs = search needs
+enum-told-2 : tie.Need-enum-told-2
+enum-told-2 c = search needs
+
+sub-requires : tie.Need-sub-requires
+sub-requires c κs = search needs
+
+enum-told-3 : tie.Need-enum-told-3
+enum-told-3 c = search needs
+
+add-immediate-requires : tie.Need-add-immediate-requires
+add-immediate-requires c κs = search needs
+
+unplanned-requires : tie.Need-unplanned-requires
+unplanned-requires c κs = search needs
 
 returns : tie.Need-returns
 unfolding limbs
-returns c =
-    rw (c .before .before .before .enum-told .given .1)
-    (c .sum .ensures _ _ _ ∙ ap (limbed true) (rw (c .before .before .operand-at .ensures .0, c .before .operand-at2 .ensures .0) (sum-of-limbs _ _ _ _ _ _)))
+returns c = rw (c .before .enum-told .given .1) (c .add .ensures)
 
 returns-2 : tie.Need-returns-2
-unfolding limbs lowOf highOf
-returns-2 c =
-    rw (c .before .before .before .enum-told2 .given .1)
-    (c .difference .ensures _ _ _ ∙ rw (c .before .before .operand-at3 .ensures .0, c .before .operand-at4 .ensures .0))
+returns-2 c = rw (c .before .enum-told2 .given .1) (c .sub .ensures)
 
 returns-3 : tie.Need-returns-3
 unfolding limbs
-returns-3 c =
-    rw (c .before .before .before .enum-told3 .given .1)
-    (c .sum2 .ensures _ _ _ ∙ ap (limbed true) (rw (c .before .before .operand-at5 .ensures .0, c .before .constant .ensures .0, normalise-none 0 _ refl) (sum-of-limbs _ _ _ _ _ _)))
+returns-3 c = rw (c .before .enum-told3 .given .1) (c .add-immediate .ensures)
 
 returns-4 : tie.Need-returns-4
 unfolding all
@@ -45,13 +45,13 @@ pub plan-of-spec : {M : Type 1} → statement M
 plan-of-spec =
     tie.close
     (tie.spec
-    (λ c. c .match .keys1) (λ c κs. tt) (λ c κs. tt)
-    sum-requires
-    (λ c. c .match .keys2) (λ c κs. tt) (λ c κs. tt)
-    difference-requires
-    (λ c. c .match .keys3) (λ c κs. tt) (λ c κs. tt)
-    sum-requires-2
-    (λ c κs. tt)
+    enum-told
+    add-requires
+    enum-told-2
+    sub-requires
+    enum-told-3
+    add-immediate-requires
+    unplanned-requires
     returns
     returns-2
     returns-3
