@@ -79,7 +79,7 @@ fetched-agrees k R (F.Refused r) w z = refl
 none-listed : (c : Check) (pc : ℕ) → listing c pc noLists ≡ noLists
 unfolding listing appended
 none-listed Unneeded pc = refl
-none-listed (Needed v b) pc = refl
+none-listed (Needed b v) pc = refl
 
 none-left : (k : Mode) (R : Rules) (w : World) → (stepOf k R w noLists) .lists ≡ noLists
 unfolding stepOf

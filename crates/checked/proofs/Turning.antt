@@ -44,11 +44,11 @@ module _ (pc room n : ℕ) where
   note-unneeded l e = rw (set-out l room none (omega arith))
 
   module _ (v b : ℕ) where
-    pub note-full : room ≤ n → Notes (Needed v b) pc room n nowhere
+    pub note-full : room ≤ n → Notes (Needed b v) pc room n nowhere
     unfolding listing
     note-full h l e = rw (set-out l room none (omega arith)) (listed-same n l (made v b pc) (omega arith))
 
-    pub note-room : n < room → Notes (Needed v b) pc room n (record { count = n + 1; place = n; pending = made v b pc })
+    pub note-room : n < room → Notes (Needed b v) pc room n (record { count = n + 1; place = n; pending = made v b pc })
     unfolding listing
     note-room h l e = listed-more n l (made v b pc) (omega arith)
 

@@ -14,10 +14,10 @@ use Rattle.opcode.proofs.Arms.{those, arm, everywhere}
 use Rattle.opcode.proofs.Variants.{place, all-at, forms, form-place, forms-at}
 use Rattle.instruction.specs.Operands.{built, joinedOf}
 use Rattle.instruction.specs.declared.Parts.{Parts}
-use Rattle.instruction.specs.declared.Instruction.the-variants.{Ecall}
+use Rattle.instruction.specs.declared.Instruction.the-variants.{Sub, Ecall}
 use Rattle.state.specs.Registers.{Registers, normalise}
 use Rattle.effect.specs.Notes.{Notes}
-use Rattle.deferred.specs.Limbs.{limbed, limbs}
+use Rattle.deferred.specs.Limbs.{added, addedImm, limbed, limbs, limbsIf, ofRegisters, ofImmediate}
 use Rattle.deferred.specs.Sources.{sources, normaliseEach}
 
 -- what an opcode of each form normalises; Ecall, which stands alone, has the number 49
@@ -77,3 +77,47 @@ limbs-of-whole N p Rs =
 pub no-limbs : (N : Notes) (p : Parts) (Rs : Registers) → OneOf without-limbs (place (p .op)) → limbed false Rs ≡ limbs N (joinedOf p) Rs
 no-limbs N p Rs h =
     ap (λ (t : Bool). cond t (limbed false Rs) (limbs N (joinedOf p) Rs)) (whole-at (p .op) h) ∙ limbs-of-whole N p Rs
+
+-- by number, as the code has them
+pub limbs-of-two : (N : Notes) (p : Parts) (Rs : Registers)
+    → cond (eqb (opcodeNumber (p .op)) 1) (limbed true (added N (p .a) (p .b) (p .c) Rs))
+    (cond (eqb (opcodeNumber (p .op)) 2) (limbs N (Sub (p .a) (p .b) (p .c)) Rs) (limbed false Rs))
+    ≡ limbsIf (ofRegisters (formOf (p .op))) N (joinedOf p) Rs
+unfolding limbs all
+limbs-of-two N p Rs =
+    everywhere all O.Add place all-at
+    (λ (op : Opcode). cond (eqb (opcodeNumber op) 1) (limbed true (added N (p .a) (p .b) (p .c) Rs)) (cond (eqb (opcodeNumber op) 2) (limbs N (Sub (p .a) (p .b) (p .c)) Rs) (limbed false Rs)))
+    (λ (op : Opcode). limbsIf (ofRegisters (formOf op)) N (built op (p .a) (p .b) (p .c) (p .imm)) Rs)
+    refl
+    refl
+    (p .op)
+
+pub limbs-of-one : (N : Notes) (p : Parts) (Rs : Registers)
+    → cond (eqb (opcodeNumber (p .op)) 9) (limbed true (addedImm N (p .a) (p .b) (p .imm) Rs)) (limbed false Rs)
+    ≡ limbsIf (ofImmediate (formOf (p .op))) N (joinedOf p) Rs
+unfolding limbs all
+limbs-of-one N p Rs =
+    everywhere all O.Add place all-at
+    (λ (op : Opcode). cond (eqb (opcodeNumber op) 9) (limbed true (addedImm N (p .a) (p .b) (p .imm) Rs)) (limbed false Rs))
+    (λ (op : Opcode). limbsIf (ofImmediate (formOf op)) N (built op (p .a) (p .b) (p .c) (p .imm)) Rs)
+    refl
+    refl
+    (p .op)
+
+module _ (N : Notes) (p : Parts) (Rs : Registers) where
+  pub two-add : eqb (opcodeNumber (p .op)) 1 ≡ true → limbed true (added N (p .a) (p .b) (p .c) Rs) ≡ limbsIf (ofRegisters (formOf (p .op))) N (joinedOf p) Rs
+  two-add e = rw e at (limbs-of-two N p Rs)
+
+  pub two-sub : eqb (opcodeNumber (p .op)) 1 ≡ false → eqb (opcodeNumber (p .op)) 2 ≡ true
+      → limbs N (Sub (p .a) (p .b) (p .c)) Rs ≡ limbsIf (ofRegisters (formOf (p .op))) N (joinedOf p) Rs
+  two-sub e f = rw (e, f) at (limbs-of-two N p Rs)
+
+  pub two-none : eqb (opcodeNumber (p .op)) 1 ≡ false → eqb (opcodeNumber (p .op)) 2 ≡ false
+      → limbed false Rs ≡ limbsIf (ofRegisters (formOf (p .op))) N (joinedOf p) Rs
+  two-none e f = rw (e, f) at (limbs-of-two N p Rs)
+
+  pub one-addi : eqb (opcodeNumber (p .op)) 9 ≡ true → limbed true (addedImm N (p .a) (p .b) (p .imm) Rs) ≡ limbsIf (ofImmediate (formOf (p .op))) N (joinedOf p) Rs
+  one-addi e = rw e at (limbs-of-one N p Rs)
+
+  pub one-none : eqb (opcodeNumber (p .op)) 9 ≡ false → limbed false Rs ≡ limbsIf (ofImmediate (formOf (p .op))) N (joinedOf p) Rs
+  one-none e = rw e at (limbs-of-one N p Rs)

@@ -11,7 +11,8 @@ ghost use Rattle.state.specs.Registers.{registers, heldAt, boundAt, normalise, 
 ghost use Rattle.effect.specs.Notes.{documentNotes};
 ghost use Rattle.instruction.specs.Operands.{joinedOf};
 ghost use Rattle.instruction.specs.declared.Instruction.the-variants.{Sub};
-ghost use Rattle.deferred.specs.Limbs.{added, addedImm, limbed, limbs};
+ghost use Rattle.deferred.specs.Limbs.{added, addedImm, limbed, limbs, limbsIf, ofRegisters, ofImmediate};
+ghost use Rattle.opcode.specs.Opcodes.{formOf};
 ghost use Rattle.deferred.specs.Plan.{operand, Small, written, carried};
 
 pub mod sources; // sources.rt: what every other instruction normalises first
@@ -115,6 +116,76 @@ pub fn limbs(
     ensures { λ r. ⌜ limbed r (registers (now (regs .exit)) (now (accumulated .exit)) (now (bounds .exit))) ≡ limbs documentNotes (joinedOf p) (registers (now (regs .entry)) (now (accumulated .entry)) (now (bounds .entry))) ⌝ }
 {
     let k = plan_of(p, regs, accumulated, bounds);
+    if k.waits {
+        carry_out(k, p.a, p.b, regs, accumulated, bounds);
+        return true;
+    }
+    false
+}
+
+// Add and Sub have the numbers 1 and 2.
+fn plan_of_registers<'a>(
+    p: Parts,
+    regs: &'a [u64; 16],
+    accumulated: &'a [bool; 16],
+    bounds: &'a [u8; 16],
+) -> Plan
+    ensures { λ r. ⌜ carried r (p .a) (p .b) (registers (now (regs .entry)) (now (accumulated .entry)) (now (bounds .entry))) ≡ limbsIf (ofRegisters (formOf (p .op))) documentNotes (joinedOf p) (registers (now (regs .entry)) (now (accumulated .entry)) (now (bounds .entry))) ⌝ }
+{
+    let op = p.op;
+    let n = opcode::number(op);
+    if n == 1 {
+        return add(p, regs, accumulated, bounds);
+    }
+    if n == 2 {
+        return sub(p, regs, accumulated, bounds);
+    }
+    sums::unplanned()
+}
+
+// Addi has the number 9.
+fn plan_of_immediate<'a>(
+    p: Parts,
+    regs: &'a [u64; 16],
+    accumulated: &'a [bool; 16],
+    bounds: &'a [u8; 16],
+) -> Plan
+    ensures { λ r. ⌜ carried r (p .a) (p .b) (registers (now (regs .entry)) (now (accumulated .entry)) (now (bounds .entry))) ≡ limbsIf (ofImmediate (formOf (p .op))) documentNotes (joinedOf p) (registers (now (regs .entry)) (now (accumulated .entry)) (now (bounds .entry))) ⌝ }
+{
+    let op = p.op;
+    if opcode::number(op) == 9 {
+        return add_immediate(p, regs, accumulated, bounds);
+    }
+    sums::unplanned()
+}
+
+// As `limbs`, of the instructions on two registers alone: a loop that goes by form calls each of these two once.
+pub fn limbs_of_registers(
+    p: Parts,
+    regs: &mut [u64; 16],
+    accumulated: &mut [bool; 16],
+    bounds: &mut [u8; 16],
+) -> bool
+    ensures { λ r. ⌜ limbed r (registers (now (regs .exit)) (now (accumulated .exit)) (now (bounds .exit))) ≡ limbsIf (ofRegisters (formOf (p .op))) documentNotes (joinedOf p) (registers (now (regs .entry)) (now (accumulated .entry)) (now (bounds .entry))) ⌝ }
+{
+    let k = plan_of_registers(p, regs, accumulated, bounds);
+    if k.waits {
+        carry_out(k, p.a, p.b, regs, accumulated, bounds);
+        return true;
+    }
+    false
+}
+
+// Of the instructions on a register and an immediate alone.
+pub fn limbs_of_immediate(
+    p: Parts,
+    regs: &mut [u64; 16],
+    accumulated: &mut [bool; 16],
+    bounds: &mut [u8; 16],
+) -> bool
+    ensures { λ r. ⌜ limbed r (registers (now (regs .exit)) (now (accumulated .exit)) (now (bounds .exit))) ≡ limbsIf (ofImmediate (formOf (p .op))) documentNotes (joinedOf p) (registers (now (regs .entry)) (now (accumulated .entry)) (now (bounds .entry))) ⌝ }
+{
+    let k = plan_of_immediate(p, regs, accumulated, bounds);
     if k.waits {
         carry_out(k, p.a, p.b, regs, accumulated, bounds);
         return true;

@@ -68,7 +68,7 @@ keeping (Bytes size address v) m = memoryAfter size m address v
 
 -- "the result's value, bound and pc"
 abbrev pub checkOf : Bool → ℕ → ℕ → Check
-checkOf checked v b = cond checked (Needed v b) Unneeded
+checkOf checked v b = cond checked (Needed b v) Unneeded
 
 -- an effect on the registers R: the register that it writes is whole
 abbrev pub does : Effect → Bool → Registers → List ℕ → Stepped

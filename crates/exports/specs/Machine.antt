@@ -38,7 +38,7 @@ stopBytes p steps = answerBytes (codeOf p) steps (particularAt p)
 -- 1, the value and the bound; or zeros
 abbrev pub checkBytes : Check → List ℕ
 checkBytes Unneeded = answerBytes 0 0 0
-checkBytes (Needed value bound) = answerBytes 1 value bound
+checkBytes (Needed bound value) = answerBytes 1 value bound
 
 -- what is lent to a given instruction
 pub record Given : Type 0 where

@@ -19,6 +19,20 @@ read-more mem at n i p h fits =
     let l : at + (i - 1) < length mem = omega arith in
     rw (e, d, drop-cons mem (at + (i - 1)) 0 l)
 
+-- four bytes read one after another
+pub read-four : (mem : List ℕ) (at : ℕ) → at + 4 ≤ length mem
+    → getD mem at 0 + getD mem (at + 1) 0 * 256 + getD mem (at + 2) 0 * 65536 + getD mem (at + 3) 0 * 16777216 ≡ numberAt 4 mem at
+unfolding number
+read-four mem at fits =
+    let e : suc at ≡ at + 1 = omega arith in
+    let f : suc (at + 1) ≡ at + 2 = omega arith in
+    let g : suc (at + 2) ≡ at + 3 = omega arith in
+    let d0 : drop at mem ≡ getD mem at 0 ∷ drop (at + 1) mem = rw (← e) (drop-cons mem at 0 (omega arith)) in
+    let d1 : drop (at + 1) mem ≡ getD mem (at + 1) 0 ∷ drop (at + 2) mem = rw (← f) (drop-cons mem (at + 1) 0 (omega arith)) in
+    let d2 : drop (at + 2) mem ≡ getD mem (at + 2) 0 ∷ drop (at + 3) mem = rw (← g) (drop-cons mem (at + 2) 0 (omega arith)) in
+    let d3 = drop-cons mem (at + 3) 0 (omega arith) in
+    rw (d0, d1, d2, d3) (omega arith)
+
 -- one more byte stored, from the bottom up
 pub store-more : (mem : List ℕ) (at n i v : ℕ) → i < n
     → sets mem (at + i) (bytes (n - i) v) ≡ sets (set mem (at + i) (v % 256)) (at + (i + 1)) (bytes (n - (i + 1)) (v / 256))

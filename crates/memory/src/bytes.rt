@@ -19,6 +19,23 @@ pub(crate) fn word_at(m: &[u8], at: usize, n: usize) -> u64
     v
 }
 
+fn wide(x: u8) -> u32
+    ensures { λ r. ⌜ (r ≡ x) × (r < 256) ⌝ }
+{
+    x as u32
+}
+
+// The number in four bytes, without a loop: the compiler makes one load of it, wherever it is inlined.
+pub(crate) fn four_at(m: &[u8], at: usize) -> u32
+    requires { ⌜ at + 4 ≤ length (now m) ⌝ }
+    ensures { λ r. ⌜ r ≡ numberAt 4 (now (m .entry)) at ⌝ }
+{
+    wide(m[at])
+        + wide(m[at + 1]) * 0x100
+        + wide(m[at + 2]) * 0x1_0000
+        + wide(m[at + 3]) * 0x100_0000
+}
+
 pub(crate) fn store_at(m: &mut [u8], at: usize, n: usize, value: u64)
     requires { ⌜ at + n ≤ length (now m) ⌝ }
     ensures { λ _. ⌜ now (m .exit) ≡ putAt n (now (m .entry)) at value ⌝ }

@@ -160,7 +160,7 @@ pub fn fetch(m: &[u8], pc: u64) -> Fetched
     ensures { λ r. ⌜ r ≡ fetchOf (now (m .entry)) pc ⌝ }
 {
     match reach(m.len(), pc, Size::Word) {
-        Access::Served => Fetched::Word(bytes::word_at(m, pc as usize, 4) as u32),
+        Access::Served => Fetched::Word(bytes::four_at(m, pc as usize)),
         Access::Beyond => Fetched::Refused(Refusal::PcBeyond { pc }),
         Access::Misaligned => Fetched::Refused(Refusal::PcMisaligned { pc }),
     }

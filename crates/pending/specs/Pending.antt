@@ -41,7 +41,7 @@ appended v b pc l =
 
 unfoldable pub listing : Check → ℕ → Lists → Lists
 listing Unneeded pc l = l
-listing (Needed v b) pc l = appended v b pc l
+listing (Needed b v) pc l = appended v b pc l
 
 -- appending by itself: 9 for malformed lists, 8 where a list is lent and full
 unfoldable pub appendAnswer : ℕ → ℕ → ℕ → Lists → Appended

@@ -6,10 +6,11 @@ ghost use lib.Dec.{eqb, leb};
 ghost use lib.ListN.{set};
 ghost use Rattle.pending.specs.Pending.{lists, fullAt, appended, listing, appendAnswer, appendLists, emptied, entryAt};
 
-// The check that a step asks for, of its result.
+// The check that a step asks for, of its result. The bound comes first: LLVM would else store the last field and the mark of
+// `Unneeded` as one byte at a place that is chosen, and so keep checks in memory.
 pub enum Check {
     Unneeded,
-    Needed { value: u64, bound: u8 },
+    Needed { bound: u8, value: u64 },
 }
 
 pub enum Appended {

@@ -17,6 +17,7 @@ use Rattle.layout.proofs as layout
 use Rattle.effect.proofs as effect
 use Rattle.deferred.proofs as deferred
 use Rattle.execute.proofs as execute
+use Rattle.obey.proofs as obey
 use Rattle.step.proofs as step
 use Rattle.run.proofs as run
 use Rattle.host.proofs as host
@@ -386,6 +387,12 @@ deferred·sources·settle κs a x y = λ p q. one (λ (R : Registers). tt & tt &
 pub deferred·limbs : Determined deferred.limbs.ended deferred.limbs.Reads.Learnt
 deferred·limbs κs a x y = one (λ (l : Limbed). l .waits & tt & l .registers .values & l .registers .accumulated & l .registers .bounds & tt)
 
+pub deferred·limbs-of-registers : Determined deferred.limbs_of_registers.ended deferred.limbs_of_registers.Reads.Learnt
+deferred·limbs-of-registers κs a x y = one (λ (l : Limbed). l .waits & tt & l .registers .values & l .registers .accumulated & l .registers .bounds & tt)
+
+pub deferred·limbs-of-immediate : Determined deferred.limbs_of_immediate.ended deferred.limbs_of_immediate.Reads.Learnt
+deferred·limbs-of-immediate κs a x y = one (λ (l : Limbed). l .waits & tt & l .registers .values & l .registers .accumulated & l .registers .bounds & tt)
+
 -- ---- execute
 pub execute·lent·execute : Determined execute.lent.execute.ended execute.lent.execute.Reads.Learnt
 execute·lent·execute κs a x y = one (λ (s : Stepped). let R = s .world .registers in advanceOf s & tt & tt & tt & tt & tt & R .values & R .accumulated & R .bounds & s .world .memory & tt)
@@ -395,6 +402,10 @@ execute·admits κs a x y = one (λ r. r & x .1)
 
 pub execute·execute : Determined execute.execute.ended execute.execute.Reads.Learnt
 execute·execute κs a x y = one (λ (s : Stepped). executedOf s & tt & tt & tt & s .world .memory & tt)
+
+-- ---- obey
+pub obey·by-form·obey : Determined obey.by_form.obey.ended obey.by_form.obey.Reads.Learnt
+obey·by-form·obey κs a x y = one (λ (s : Stepped). let R = s .world .registers in advanceOf s & tt & tt & tt & tt & tt & tt & R .values & R .accumulated & R .bounds & s .world .memory & tt)
 
 -- ---- step
 pub step·step-in : Determined step.step_in.ended step.step_in.Reads.Learnt

@@ -72,7 +72,7 @@ module _ (k : Mode) (R : Rules) (l : Lists) (pc : ℕ) where
       → following (left g v (listing c pc l)) (loop n k R) ≡ onward (suc n) k R l (cond (goesOn g && unneeded c) (later 1 (legIn n k (full l) R v)) (leg g (counted g) v c pc))
   unfolding following goesOn unneeded counted stopOf listing
   first-step n W.On Unneeded v h = ap (λ (x : Answer). after 1 x) h ∙ onward-later n k R l (legIn n k (full l) R v)
-  first-step n W.On (Needed x b) v h = let z : suc n - 1 ≡ n = omega arith in rw z
+  first-step n W.On (Needed b x) v h = let z : suc n - 1 ≡ n = omega arith in rw z
   first-step n W.Ebreak c v h = refl
   first-step n W.Ecall c v h = refl
   first-step n (W.Refused r) c v h = refl
@@ -87,7 +87,7 @@ one-step-leg : (k : Mode) (full : Bool) (R : Rules) (l : Lists) (pc : ℕ) (g : 
     → left (a .went) (a .world) (listing (a .check) (a .pc) l) ≡ left g v (listing c pc l)
 unfolding legIn goesOn unneeded listing
 one-step-leg k full R l pc W.On Unneeded v a e = rw e
-one-step-leg k full R l pc W.On (Needed x b) v a e = rw e
+one-step-leg k full R l pc W.On (Needed b x) v a e = rw e
 one-step-leg k full R l pc W.Ebreak c v a e = rw e
 one-step-leg k full R l pc W.Ecall c v a e = rw e
 one-step-leg k full R l pc (W.Refused r) c v a e = rw e

@@ -29,7 +29,7 @@ later n a = leg (a .went) (n + a .steps) (a .world) (a .check) (a .pc)
 
 unfoldable pub unneeded : Check → Bool
 unneeded Unneeded = true
-unneeded (Needed v b) = false
+unneeded (Needed b v) = false
 
 abbrev pub passing : Stepped → Bool
 passing s = goesOn (s .went) && unneeded (s .check)

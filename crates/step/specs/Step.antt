@@ -33,10 +33,6 @@ unfoldable pub obey : Mode → Bool → Rules → Decoded → World → Stepped
 obey k full R (D.Instruction i) w = execute k full (R .notes) i w
 obey k full R (D.Refused r) w = refused r w
 
-unfoldable pub decodedAt : Rules → Fetched → Decoded
-decodedAt R (F.Word x) = decodeIn (R .number) x
-decodedAt R (F.Refused r) = D.Refused r
-
 unfoldable pub fetched : Mode → Bool → Rules → Fetched → World → Stepped
 fetched k full R (F.Word x) w = obey k full R (decodeIn (R .number) x) w
 fetched k full R (F.Refused r) w = refused r w

@@ -2,23 +2,26 @@
 use execute::Advance;
 use execute::Mode;
 use execute::Went;
-use execute::lent;
 use memory::Fetched;
+use obey::by_form;
+use opcode::Found;
 use pending::Check;
 use refusal::Refusal;
 use state::State;
-use words::Taken;
 ghost use mathlib.Core.Path.{_≡_};
 ghost use mathlib.Core.Bool.{_&&_};
 ghost use lib.Dec.{eqb, leb};
-ghost use Rattle.memory.specs.Memory.{fetchOf};
 ghost use Rattle.state.specs.Registers.{registers};
 ghost use Rattle.state.specs.Formed.{registersOf};
-ghost use Rattle.words.specs.Words.{decodedOf};
+ghost use Rattle.encoding.specs.Fields.{field};
+ghost use Rattle.opcode.specs.Opcodes.{opcodeNumber};
+ghost use Rattle.words.specs.Words.{decodeIn};
+ghost use Rattle.pending.specs.declared.Check.the-variants.{Unneeded};
+ghost use Rattle.execute.specs.declared.Went.the-variants as W;
 ghost use Rattle.execute.specs.World.{world, worldOf, advanced};
 ghost use Rattle.execute.specs.Execute.{admits};
 ghost use Rattle.pending.specs.Pending.{lists};
-ghost use Rattle.step.specs.Step.{documentRules, decodedAt, stepIn, step, stepped};
+ghost use Rattle.step.specs.Step.{documentRules, obey, stepIn, step, stepped};
 
 pub struct OneStep {
     pub went: Went,
@@ -26,13 +29,50 @@ pub struct OneStep {
     pub state: State,
 }
 
-// The word at the pc, taken apart.
-fn take_at(m: &[u8], pc: u64) -> Taken
-    ensures { λ r. ⌜ decodedOf r ≡ decodedAt documentRules (fetchOf (now (m .entry)) pc) ⌝ }
+fn refuse(r: Refusal, pc: u64, halted: bool) -> Advance
+    ensures { λ a. ⌜ a ≡ record { went = W.Refused r; pc = pc; halted = halted; check = Unneeded } ⌝ }
 {
-    match memory::fetch(m, pc) {
-        Fetched::Word(word) => words::take(word),
-        Fetched::Refused(r) => Taken::Refused(r),
+    Advance {
+        went: Went::Refused(r),
+        pc,
+        halted,
+        check: Check::Unneeded,
+    }
+}
+
+fn low(word: u32) -> u8
+    ensures { λ r. ⌜ r ≡ field 0 7 word ⌝ }
+{
+    (word % 128) as u8
+}
+
+fn obey_word(
+    mode: Mode,
+    full: bool,
+    word: u32,
+    pc: u64,
+    halted: bool,
+    regs: &mut [u64; 16],
+    accumulated: &mut [bool; 16],
+    bounds: &mut [u8; 16],
+    m: &mut [u8],
+) -> Advance
+    ensures { λ r. ⌜ advanced r (registers (now (regs .exit)) (now (accumulated .exit)) (now (bounds .exit))) (now (m .exit)) ≡ obey mode full documentRules (decodeIn opcodeNumber word) (world pc halted (registers (now (regs .entry)) (now (accumulated .entry)) (now (bounds .entry))) (now (m .entry))) ⌝ }
+{
+    match opcode::opcode_of(low(word)) {
+        Found::Op(op) => by_form::obey(
+            mode,
+            full,
+            op,
+            word,
+            pc,
+            halted,
+            regs,
+            accumulated,
+            bounds,
+            m,
+        ),
+        Found::Nothing => refuse(Refusal::BadOpcode { word }, pc, halted),
     }
 }
 
@@ -49,14 +89,19 @@ pub fn step_in(
 ) -> Advance
     ensures { λ r. ⌜ advanced r (registers (now (regs .exit)) (now (accumulated .exit)) (now (bounds .exit))) (now (m .exit)) ≡ stepIn mode full documentRules (world pc halted (registers (now (regs .entry)) (now (accumulated .entry)) (now (bounds .entry))) (now (m .entry))) ⌝ }
 {
-    match take_at(m, pc) {
-        Taken::Apart(p) => lent::execute(mode, full, p, pc, halted, regs, accumulated, bounds, m),
-        Taken::Refused(r) => Advance {
-            went: Went::Refused(r),
+    match memory::fetch(m, pc) {
+        Fetched::Word(word) => obey_word(
+            mode,
+            full,
+            word,
             pc,
             halted,
-            check: Check::Unneeded,
-        },
+            regs,
+            accumulated,
+            bounds,
+            m,
+        ),
+        Fetched::Refused(r) => refuse(r, pc, halted),
     }
 }
 

@@ -1,5 +1,4 @@
 use Rattle.memory.proofs.Accesses.{on-served, on-beyond, on-mis, served-fits}
-use native.Mathlib.Omega.{arith}
 use mathlib.Core.Path.{sym, _∙_}
 use borrow.Author.Needs.{needs}
 use Rattle.memory.proofs.fetch.Statement.{statement}
@@ -11,11 +10,8 @@ reach-requires c κs = search needs
 enum-told : tie.Need-enum-told
 enum-told c = search needs
 
-word-at-requires : tie.Need-word-at-requires
-word-at-requires c κs = (omega arith, served-fits _ _ _ (sym (c .before .before .reach .ensures) ∙ c .enum-told .given .1))
-
-cast-t9 : tie.Need-cast-t9
-cast-t9 c = search needs
+four-at-requires : tie.Need-four-at-requires
+four-at-requires c κs = served-fits _ _ _ (sym (c .before .before .reach .ensures) ∙ c .enum-told .given .1)
 
 enum-told-2 : tie.Need-enum-told-2
 enum-told-2 c = search needs
@@ -24,7 +20,7 @@ enum-told-3 : tie.Need-enum-told-3
 enum-told-3 c = search needs
 
 returns : tie.Need-returns
-returns c = rw (c .word-at .ensures .0) (on-served _ _ _ _ (sym (c .before .before .before .reach .ensures) ∙ c .before .enum-told .given .1))
+returns c = rw (c .four-at .ensures) (on-served _ _ _ _ (sym (c .before .before .before .reach .ensures) ∙ c .before .enum-told .given .1))
 
 returns-2 : tie.Need-returns-2
 returns-2 c = on-beyond _ _ _ _ (sym (c .before .before .reach .ensures) ∙ c .enum-told2 .given .1)
@@ -38,8 +34,7 @@ fetch-spec =
     (tie.spec
     reach-requires
     enum-told
-    word-at-requires
-    cast-t9
+    four-at-requires
     enum-told-2
     enum-told-3
     returns

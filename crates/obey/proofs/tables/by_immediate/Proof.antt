@@ -1,0 +1,272 @@
+use mathlib.Core.Path.{refl, _∙_}
+use Rattle.obey.proofs.Arms.{no-arm}
+use Rattle.opcode.specs.declared.Form.the-variants as F
+use Rattle.opcode.specs.Opcodes.{all}
+use Rattle.deferred.specs.Limbs.{ofImmediate}
+use Rattle.effect.specs.Effects.{effect, loading}
+use Rattle.effect.specs.Notes.{resultBits}
+use Rattle.effect.specs.Operations.{result, registerForm, loadSize, loaded}
+use borrow.Author.Needs.{needs}
+use Rattle.obey.proofs.tables.by_immediate.Statement.{statement}
+use Rattle.obey.proofs.tables.by_immediate.Tie as tie
+
+enum-told : tie.Need-enum-told
+enum-told c = search needs
+
+add-requires : tie.Need-add-requires
+add-requires c κs = search needs
+
+from-constant-requires : tie.Need-from-constant-requires
+from-constant-requires c κs = search needs
+
+after-add-requires : tie.Need-after-add-requires
+after-add-requires c κs = search needs
+
+turns-requires : tie.Need-turns-requires
+turns-requires c κs = search needs
+
+enum-told-2 : tie.Need-enum-told-2
+enum-told-2 c = search needs
+
+and-requires : tie.Need-and-requires
+and-requires c κs = search needs
+
+from-constant-requires-2 : tie.Need-from-constant-requires-2
+from-constant-requires-2 c κs = search needs
+
+after-and-requires : tie.Need-after-and-requires
+after-and-requires c κs = search needs
+
+turns-requires-2 : tie.Need-turns-requires-2
+turns-requires-2 c κs = search needs
+
+enum-told-3 : tie.Need-enum-told-3
+enum-told-3 c = search needs
+
+or-requires : tie.Need-or-requires
+or-requires c κs = search needs
+
+from-constant-requires-3 : tie.Need-from-constant-requires-3
+from-constant-requires-3 c κs = search needs
+
+after-sub-requires : tie.Need-after-sub-requires
+after-sub-requires c κs = search needs
+
+turns-requires-3 : tie.Need-turns-requires-3
+turns-requires-3 c κs = search needs
+
+enum-told-4 : tie.Need-enum-told-4
+enum-told-4 c = search needs
+
+xor-requires : tie.Need-xor-requires
+xor-requires c κs = search needs
+
+from-constant-requires-4 : tie.Need-from-constant-requires-4
+from-constant-requires-4 c κs = search needs
+
+after-sub-requires-2 : tie.Need-after-sub-requires-2
+after-sub-requires-2 c κs = search needs
+
+turns-requires-4 : tie.Need-turns-requires-4
+turns-requires-4 c κs = search needs
+
+enum-told-5 : tie.Need-enum-told-5
+enum-told-5 c = search needs
+
+address-requires : tie.Need-address-requires
+address-requires c κs = search needs
+
+load-requires : tie.Need-load-requires
+load-requires c κs = search needs
+
+loaded-8-requires : tie.Need-loaded-8-requires
+loaded-8-requires c κs = search needs
+
+enum-told-6 : tie.Need-enum-told-6
+enum-told-6 c = search needs
+
+address-requires-2 : tie.Need-address-requires-2
+address-requires-2 c κs = search needs
+
+load-requires-2 : tie.Need-load-requires-2
+load-requires-2 c κs = search needs
+
+loaded-requires : tie.Need-loaded-requires
+loaded-requires c κs = search needs
+
+enum-told-7 : tie.Need-enum-told-7
+enum-told-7 c = search needs
+
+address-requires-3 : tie.Need-address-requires-3
+address-requires-3 c κs = search needs
+
+load-requires-3 : tie.Need-load-requires-3
+load-requires-3 c κs = search needs
+
+loaded-16-requires : tie.Need-loaded-16-requires
+loaded-16-requires c κs = search needs
+
+enum-told-8 : tie.Need-enum-told-8
+enum-told-8 c = search needs
+
+address-requires-4 : tie.Need-address-requires-4
+address-requires-4 c κs = search needs
+
+load-requires-4 : tie.Need-load-requires-4
+load-requires-4 c κs = search needs
+
+loaded-requires-2 : tie.Need-loaded-requires-2
+loaded-requires-2 c κs = search needs
+
+enum-told-9 : tie.Need-enum-told-9
+enum-told-9 c = search needs
+
+address-requires-5 : tie.Need-address-requires-5
+address-requires-5 c κs = search needs
+
+load-requires-5 : tie.Need-load-requires-5
+load-requires-5 c κs = search needs
+
+loaded-requires-3 : tie.Need-loaded-requires-3
+loaded-requires-3 c κs = search needs
+
+enum-told-10 : tie.Need-enum-told-10
+enum-told-10 c = search needs
+
+address-requires-6 : tie.Need-address-requires-6
+address-requires-6 c κs = search needs
+
+load-requires-6 : tie.Need-load-requires-6
+load-requires-6 c κs = search needs
+
+loaded-requires-4 : tie.Need-loaded-requires-4
+loaded-requires-4 c κs = search needs
+
+enum-told-11 : tie.Need-enum-told-11
+enum-told-11 c = search needs
+
+address-requires-7 : tie.Need-address-requires-7
+address-requires-7 c κs = search needs
+
+mul-links : tie.Need-mul-links
+mul-links c = search needs
+
+links-requires : tie.Need-links-requires
+links-requires c κs = search needs
+
+links-requires-2 : tie.Need-links-requires-2
+links-requires-2 c κs = search needs
+
+returns : tie.Need-returns
+unfolding effect
+returns c = λ a b x imm v e. rw (c .before .before .before .before .enum-told .given .1, c .turns .ensures, c .before .after-add .ensures, c .before .before .from-constant .ensures, c .before .before .before .add .ensures, e)
+
+returns-2 : tie.Need-returns-2
+unfolding effect result resultBits registerForm
+returns-2 c = λ a b x imm v e. rw (c .before .before .before .before .enum-told2 .given .1, c .turns2 .ensures, c .before .after-and .ensures, c .before .before .from-constant2 .ensures, c .before .before .before .and .ensures, e)
+
+returns-3 : tie.Need-returns-3
+unfolding effect result resultBits registerForm
+returns-3 c = λ a b x imm v e. rw (c .before .before .before .before .enum-told3 .given .1, c .turns3 .ensures, c .before .after-sub .ensures, c .before .before .from-constant3 .ensures, c .before .before .before .or .ensures, e)
+
+returns-4 : tie.Need-returns-4
+unfolding effect result resultBits registerForm
+returns-4 c = λ a b x imm v e. rw (c .before .before .before .before .enum-told4 .given .1, c .turns4 .ensures, c .before .after-sub2 .ensures, c .before .before .from-constant4 .ensures, c .before .before .before .xor .ensures, e)
+
+returns-5 : tie.Need-returns-5
+unfolding effect loading loadSize loaded
+returns-5 c = λ a b x imm v e. c .loaded-8 .ensures a (v .pc) ∙ rw (c .before .before .before .enum-told5 .given .1, c .before .load .ensures, c .before .before .address .ensures, e)
+
+returns-6 : tie.Need-returns-6
+unfolding effect loading loadSize loaded
+returns-6 c = λ a b x imm v e. c .loaded .ensures a (v .pc) ∙ rw (c .before .before .before .enum-told6 .given .1, c .before .load2 .ensures, c .before .before .address2 .ensures, e)
+
+returns-7 : tie.Need-returns-7
+unfolding effect loading loadSize loaded
+returns-7 c = λ a b x imm v e. c .loaded-16 .ensures a (v .pc) ∙ rw (c .before .before .before .enum-told7 .given .1, c .before .load3 .ensures, c .before .before .address3 .ensures, e)
+
+returns-8 : tie.Need-returns-8
+unfolding effect loading loadSize loaded
+returns-8 c = λ a b x imm v e. c .loaded2 .ensures a (v .pc) ∙ rw (c .before .before .before .enum-told8 .given .1, c .before .load4 .ensures, c .before .before .address4 .ensures, e)
+
+returns-9 : tie.Need-returns-9
+unfolding effect loading loadSize loaded
+returns-9 c = λ a b x imm v e. c .loaded3 .ensures a (v .pc) ∙ rw (c .before .before .before .enum-told9 .given .1, c .before .load5 .ensures, c .before .before .address5 .ensures, e)
+
+returns-10 : tie.Need-returns-10
+unfolding effect loading loadSize loaded
+returns-10 c = λ a b x imm v e. c .loaded4 .ensures a (v .pc) ∙ rw (c .before .before .before .enum-told10 .given .1, c .before .load6 .ensures, c .before .before .address6 .ensures, e)
+
+returns-11 : tie.Need-returns-11
+unfolding effect
+returns-11 c = λ a b x imm v e. rw (c .before .before .enum-told11 .given .1, c .links .ensures, c .before .address7 .ensures, e)
+
+returns-12 : tie.Need-returns-12
+unfolding all
+returns-12 c = λ a b x imm v e. no-arm ofImmediate F.I refl (c .before .before .before .args .op) (c .before .match .keys12) (c .before .before .before .pre) refl
+
+pub by-immediate-spec : {M : Type 1} → statement M
+by-immediate-spec =
+    tie.close
+    (tie.spec
+    enum-told
+    add-requires
+    from-constant-requires
+    after-add-requires
+    turns-requires
+    enum-told-2
+    and-requires
+    from-constant-requires-2
+    after-and-requires
+    turns-requires-2
+    enum-told-3
+    or-requires
+    from-constant-requires-3
+    after-sub-requires
+    turns-requires-3
+    enum-told-4
+    xor-requires
+    from-constant-requires-4
+    after-sub-requires-2
+    turns-requires-4
+    enum-told-5
+    address-requires
+    load-requires
+    loaded-8-requires
+    enum-told-6
+    address-requires-2
+    load-requires-2
+    loaded-requires
+    enum-told-7
+    address-requires-3
+    load-requires-3
+    loaded-16-requires
+    enum-told-8
+    address-requires-4
+    load-requires-4
+    loaded-requires-2
+    enum-told-9
+    address-requires-5
+    load-requires-5
+    loaded-requires-3
+    enum-told-10
+    address-requires-6
+    load-requires-6
+    loaded-requires-4
+    enum-told-11
+    address-requires-7
+    mul-links
+    links-requires
+    links-requires-2
+    returns
+    returns-2
+    returns-3
+    returns-4
+    returns-5
+    returns-6
+    returns-7
+    returns-8
+    returns-9
+    returns-10
+    returns-11
+    returns-12)

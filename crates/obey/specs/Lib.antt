@@ -1,0 +1,2 @@
+pub mod Deeds
+pub mod Obeying
