@@ -5,8 +5,6 @@ use lib.Dec.{leb, ltb}
 use Rattle.state.specs.Held.{Held, Whole, Limbs, lowOf, highOf, settled}
 use Rattle.state.specs.Registers.{Registers, holds, noted, put, normalise}
 use Rattle.effect.specs.Notes.{Notes}
-use Rattle.opcode.specs.declared.Form.{Form}
-use Rattle.opcode.specs.declared.Form.the-variants as F
 use Rattle.instruction.specs.declared.Instruction.{Instruction}
 use Rattle.instruction.specs.declared.Instruction.the-variants.{Add, Sub, Addi, Mul, Divide, Op, OpImm, Move, Load, Store, Branch, Jal, Jalr, Ecall, Ebreak}
 
@@ -66,22 +64,3 @@ limbs N Ebreak R = limbed false R
 -- the limb form, if one is asked for
 abbrev pub limbsIf : Bool → Notes → Instruction → Registers → Limbed
 limbsIf t N i R = cond t (limbs N i R) (limbed false R)
-
--- the forms that have a limb form: Add and Sub are of two registers, Addi of an immediate
-abbrev pub ofRegisters : Form → Bool
-ofRegisters F.R = true
-ofRegisters F.I = false
-ofRegisters F.Shift = false
-ofRegisters F.S = false
-ofRegisters F.B = false
-ofRegisters F.J = false
-ofRegisters F.Alone = false
-
-abbrev pub ofImmediate : Form → Bool
-ofImmediate F.R = false
-ofImmediate F.I = true
-ofImmediate F.Shift = false
-ofImmediate F.S = false
-ofImmediate F.B = false
-ofImmediate F.J = false
-ofImmediate F.Alone = false

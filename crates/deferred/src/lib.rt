@@ -9,13 +9,13 @@ ghost use mathlib.Core.Path.{_≡_};
 ghost use mathlib.Core.Bool.{true, cond};
 ghost use Rattle.state.specs.Registers.{registers, heldAt, boundAt, normalise, Becomes};
 ghost use Rattle.effect.specs.Notes.{documentNotes};
+ghost use Rattle.effect.specs.Tables.{isRegisters, isImmediate};
 ghost use Rattle.instruction.specs.Operands.{joinedOf};
 ghost use Rattle.instruction.specs.declared.Instruction.the-variants.{Sub};
-ghost use Rattle.deferred.specs.Limbs.{added, addedImm, limbed, limbs, limbsIf, ofRegisters, ofImmediate};
+ghost use Rattle.deferred.specs.Limbs.{added, addedImm, limbed, limbs, limbsIf};
 ghost use Rattle.opcode.specs.Opcodes.{formOf};
 ghost use Rattle.deferred.specs.Plan.{operand, Small, written, carried};
 
-pub mod sources; // sources.rt: what every other instruction normalises first
 mod sums; // sums.rt: the sums and differences of limbs, in numbers alone
 
 fn operand_at<'a>(
@@ -67,28 +67,18 @@ fn sub<'a>(p: Parts, regs: &'a [u64; 16], accumulated: &'a [bool; 16], bounds: &
     )
 }
 
-fn plan_of<'a>(
-    p: Parts,
-    regs: &'a [u64; 16],
-    accumulated: &'a [bool; 16],
-    bounds: &'a [u8; 16],
-) -> Plan
-    ensures { λ r. ⌜ carried r (p .a) (p .b) (registers (now (regs .entry)) (now (accumulated .entry)) (now (bounds .entry))) ≡ limbs documentNotes (joinedOf p) (registers (now (regs .entry)) (now (accumulated .entry)) (now (bounds .entry))) ⌝ }
+fn normalise_two(regs: &mut [u64; 16], accumulated: &mut [bool; 16], rs1: u8, rs2: u8)
+    ensures { λ _. ⌜ Becomes (λ R. normalise rs2 (normalise rs1 R)) (now (regs .entry)) (now (accumulated .entry)) (now (regs .exit)) (now (accumulated .exit)) ⌝ }
 {
-    let op = p.op;
-    match op {
-        Opcode::Add => add(p, regs, accumulated, bounds),
-        Opcode::Sub => sub(p, regs, accumulated, bounds),
-        Opcode::Addi => add_immediate(p, regs, accumulated, bounds),
-        _ => sums::unplanned(),
-    }
+    registers::normalise(regs, accumulated, rs1);
+    registers::normalise(regs, accumulated, rs2);
 }
 
 fn normalise_if(forced: bool, regs: &mut [u64; 16], accumulated: &mut [bool; 16], rs1: u8, rs2: u8)
     ensures { λ _. ⌜ Becomes (λ R. cond forced (normalise rs2 (normalise rs1 R)) R) (now (regs .entry)) (now (accumulated .entry)) (now (regs .exit)) (now (accumulated .exit)) ⌝ }
 {
     if forced {
-        sources::normalise_two(regs, accumulated, rs1, rs2);
+        normalise_two(regs, accumulated, rs1, rs2);
     }
 }
 
@@ -106,67 +96,47 @@ fn carry_out(
     registers::write(regs, accumulated, bounds, rd, k.kept, true, k.bound);
 }
 
-// Executes the instruction on limbs, if it has that form here, and says whether it did.
-pub fn limbs(
-    p: Parts,
-    regs: &mut [u64; 16],
-    accumulated: &mut [bool; 16],
-    bounds: &mut [u8; 16],
-) -> bool
-    ensures { λ r. ⌜ limbed r (registers (now (regs .exit)) (now (accumulated .exit)) (now (bounds .exit))) ≡ limbs documentNotes (joinedOf p) (registers (now (regs .entry)) (now (accumulated .entry)) (now (bounds .entry))) ⌝ }
-{
-    let k = plan_of(p, regs, accumulated, bounds);
-    if k.waits {
-        carry_out(k, p.a, p.b, regs, accumulated, bounds);
-        return true;
-    }
-    false
-}
-
-// Add and Sub have the numbers 1 and 2.
 fn plan_of_registers<'a>(
     p: Parts,
     regs: &'a [u64; 16],
     accumulated: &'a [bool; 16],
     bounds: &'a [u8; 16],
 ) -> Plan
-    ensures { λ r. ⌜ carried r (p .a) (p .b) (registers (now (regs .entry)) (now (accumulated .entry)) (now (bounds .entry))) ≡ limbsIf (ofRegisters (formOf (p .op))) documentNotes (joinedOf p) (registers (now (regs .entry)) (now (accumulated .entry)) (now (bounds .entry))) ⌝ }
+    ensures { λ r. ⌜ carried r (p .a) (p .b) (registers (now (regs .entry)) (now (accumulated .entry)) (now (bounds .entry))) ≡ limbsIf (isRegisters (formOf (p .op))) documentNotes (joinedOf p) (registers (now (regs .entry)) (now (accumulated .entry)) (now (bounds .entry))) ⌝ }
 {
     let op = p.op;
-    let n = opcode::number(op);
-    if n == 1 {
+    if opcode::same(op, Opcode::Add) {
         return add(p, regs, accumulated, bounds);
     }
-    if n == 2 {
+    if opcode::same(op, Opcode::Sub) {
         return sub(p, regs, accumulated, bounds);
     }
     sums::unplanned()
 }
 
-// Addi has the number 9.
 fn plan_of_immediate<'a>(
     p: Parts,
     regs: &'a [u64; 16],
     accumulated: &'a [bool; 16],
     bounds: &'a [u8; 16],
 ) -> Plan
-    ensures { λ r. ⌜ carried r (p .a) (p .b) (registers (now (regs .entry)) (now (accumulated .entry)) (now (bounds .entry))) ≡ limbsIf (ofImmediate (formOf (p .op))) documentNotes (joinedOf p) (registers (now (regs .entry)) (now (accumulated .entry)) (now (bounds .entry))) ⌝ }
+    ensures { λ r. ⌜ carried r (p .a) (p .b) (registers (now (regs .entry)) (now (accumulated .entry)) (now (bounds .entry))) ≡ limbsIf (isImmediate (formOf (p .op))) documentNotes (joinedOf p) (registers (now (regs .entry)) (now (accumulated .entry)) (now (bounds .entry))) ⌝ }
 {
     let op = p.op;
-    if opcode::number(op) == 9 {
+    if opcode::same(op, Opcode::Addi) {
         return add_immediate(p, regs, accumulated, bounds);
     }
     sums::unplanned()
 }
 
-// As `limbs`, of the instructions on two registers alone: a loop that goes by form calls each of these two once.
+// Executes Add or Sub on limbs, if it has that form here, and says whether it did. What is of another form is not executed.
 pub fn limbs_of_registers(
     p: Parts,
     regs: &mut [u64; 16],
     accumulated: &mut [bool; 16],
     bounds: &mut [u8; 16],
 ) -> bool
-    ensures { λ r. ⌜ limbed r (registers (now (regs .exit)) (now (accumulated .exit)) (now (bounds .exit))) ≡ limbsIf (ofRegisters (formOf (p .op))) documentNotes (joinedOf p) (registers (now (regs .entry)) (now (accumulated .entry)) (now (bounds .entry))) ⌝ }
+    ensures { λ r. ⌜ limbed r (registers (now (regs .exit)) (now (accumulated .exit)) (now (bounds .exit))) ≡ limbsIf (isRegisters (formOf (p .op))) documentNotes (joinedOf p) (registers (now (regs .entry)) (now (accumulated .entry)) (now (bounds .entry))) ⌝ }
 {
     let k = plan_of_registers(p, regs, accumulated, bounds);
     if k.waits {
@@ -176,14 +146,14 @@ pub fn limbs_of_registers(
     false
 }
 
-// Of the instructions on a register and an immediate alone.
+// Likewise Addi.
 pub fn limbs_of_immediate(
     p: Parts,
     regs: &mut [u64; 16],
     accumulated: &mut [bool; 16],
     bounds: &mut [u8; 16],
 ) -> bool
-    ensures { λ r. ⌜ limbed r (registers (now (regs .exit)) (now (accumulated .exit)) (now (bounds .exit))) ≡ limbsIf (ofImmediate (formOf (p .op))) documentNotes (joinedOf p) (registers (now (regs .entry)) (now (accumulated .entry)) (now (bounds .entry))) ⌝ }
+    ensures { λ r. ⌜ limbed r (registers (now (regs .exit)) (now (accumulated .exit)) (now (bounds .exit))) ≡ limbsIf (isImmediate (formOf (p .op))) documentNotes (joinedOf p) (registers (now (regs .entry)) (now (accumulated .entry)) (now (bounds .entry))) ⌝ }
 {
     let k = plan_of_immediate(p, regs, accumulated, bounds);
     if k.waits {

@@ -24,11 +24,8 @@ use Rattle.instruction.specs.declared.Division.{Division}
 use Rattle.instruction.specs.declared.MoveKind.{MoveKind}
 use Rattle.instruction.specs.declared.LoadKind.{LoadKind}
 use Rattle.instruction.specs.declared.StoreKind.{StoreKind}
-use Rattle.effect.specs.declared.Goes.{Goes}
-use Rattle.effect.specs.declared.Goes.the-variants as G
-use Rattle.effect.specs.declared.Stores.the-variants.{Nothing, Bytes}
-use Rattle.effect.specs.declared.Outcome.{Outcome}
-use Rattle.effect.specs.declared.Outcome.the-variants.{Does, Refuses}
+use Rattle.effect.specs.Outcomes.{Goes, Nothing, Bytes, Outcome, Does, Refuses}
+use Rattle.effect.specs.Outcomes as G
 
 pub record Seen : Type 0 where
   pub pc : ℕ

@@ -1,4 +1,5 @@
 pub mod Operations
 pub mod Notes
+pub mod Outcomes
 pub mod Effects
-pub mod Operands
+pub mod Tables

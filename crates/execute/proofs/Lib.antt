@@ -1,2 +1,4 @@
 pub mod Finish
 pub mod Admitting
+mod Ending
+mod Forms

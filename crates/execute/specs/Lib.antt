@@ -1,3 +1,5 @@
 pub mod World
 pub mod Modes
 pub mod Execute
+pub mod Rules
+pub mod Starts

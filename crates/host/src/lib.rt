@@ -1,12 +1,17 @@
 // What the host lends, and its call of the run.
+use execute::Choices;
 use execute::Mode;
 use layout::answer::ANSWER_BYTES;
 use layout::answer::write_answer;
 use layout::laid::well_laid;
 use layout::reading::read_state;
 use layout::writing::write_state;
+use pending::Room;
+use refusal::Stop;
 use run::Ran;
+use run::legs::stop_of;
 use state::State;
+use step::leg;
 ghost use mathlib.Core.Path.{_≡_};
 ghost use mathlib.Core.Bool.{_&&_};
 ghost use lib.Dec.{eqb, leb};
@@ -28,19 +33,7 @@ fn mode_of(n: u64) -> Mode
     Mode::Deferred
 }
 
-// Whether the mode's run takes the state.
-fn admits(mode: u64, s: State) -> bool
-    ensures { λ r. ⌜ r ≡ admits (modeOf mode) (registersOf s) ⌝ }
-{
-    let regs = s.regs;
-    let accumulated = s.accumulated;
-    let bounds = s.bounds;
-    execute::admits(mode_of(mode), &regs, &accumulated, &bounds)
-}
-
-fn takes(state: &[u8], answer: usize, mode: u64) -> bool
-    ensures { λ r. ⌜ r ≡ (eqb answer ANSWER_BYTES && leb mode 1 && wellLaid (now (state .entry)) && admits (modeOf mode) (registersOf (stateIn (now (state .entry))))) ⌝ }
-{
+fn takes(state: &[u8], s: State, answer: usize, mode: u64) -> bool {
     if answer != ANSWER_BYTES {
         return false;
     }
@@ -50,20 +43,28 @@ fn takes(state: &[u8], answer: usize, mode: u64) -> bool
     if !well_laid(state) {
         return false;
     }
-    admits(mode, read_state(state))
+    execute::admits(mode_of(mode), &s.regs, &s.accumulated, &s.bounds)
 }
 
-// The run of the mode, with no list lent.
-fn run_by(mode: u64, s: State, fuel: u64, m: &mut [u8]) -> Ran
-    ensures { λ r. ⌜ served (answer (r .stop) (r .steps) (worldOf (r .state) (now (m .exit))) none) ≡ served (ranOn mode fuel s (now (m .entry))) ⌝ }
-{
-    let mut values = [0u64; 0];
-    let mut widths = [0u8; 0];
-    let mut pcs = [0u64; 0];
-    if mode == 0 {
-        return run::run_plain(s, fuel, m, &mut values, &mut widths, &mut pcs, 0);
+// The run of the mode, with no list lent: one leg.
+fn run_by(choices: Choices, s: State, fuel: u64, m: &mut [u8]) -> Ran {
+    if s.halted {
+        return Ran {
+            stop: Stop::Ebreak,
+            steps: 0,
+            count: 0,
+            state: s,
+        };
     }
-    run::run_deferred(s, fuel, m, &mut values, &mut widths, &mut pcs, 0)
+    let g = leg::advance(choices, Room::Unlent, s, fuel, m);
+    let went = g.went;
+    let state = g.state;
+    Ran {
+        stop: stop_of(went),
+        steps: g.steps,
+        count: 0,
+        state,
+    }
 }
 
 // Writes what a run leaves, and answers its code.
@@ -89,10 +90,14 @@ pub extern "C" fn zkir_run(
 ) -> u64
     ensures { λ r. ⌜ called r (now (state .exit)) (now (memory .exit)) (now (answer .exit)) ≡ callOf (now (state .entry)) (now (memory .entry)) (now (answer .entry)) fuel mode ⌝ }
 {
-    if !takes(state, answer.len(), mode) {
+    let s = read_state(state);
+    if !takes(state, s, answer.len(), mode) {
         write_answer(answer, 9, 0, 0);
         return 9;
     }
-    let r = run_by(mode, read_state(state), fuel, memory);
+    let choices = Choices {
+        mode: mode_of(mode),
+    };
+    let r = run_by(choices, s, fuel, memory);
     leave(state, answer, r)
 }

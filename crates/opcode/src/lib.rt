@@ -1,6 +1,7 @@
 // The fifty opcodes (document 01, "Words") and their numbers, and the forms that words have.
 ghost use mathlib.Core.Path.{_≡_};
 ghost use mathlib.Core.Bool.{true};
+ghost use lib.Dec.{eqb};
 ghost use Rattle.encoding.specs.Fields.{within};
 ghost use Rattle.opcode.specs.Opcodes.{opcodeNumber, opcodeIn};
 
@@ -189,6 +190,12 @@ fn opcode_at(n: u8) -> Opcode
         49 => Opcode::Ecall,
         _ => Opcode::Ebreak,
     }
+}
+
+pub fn same(a: Opcode, b: Opcode) -> bool
+    ensures { λ r. ⌜ r ≡ eqb (opcodeNumber a) (opcodeNumber b) ⌝ }
+{
+    number(a) == number(b)
 }
 
 // One range test when compiled: the variants stand in the order of their numbers.

@@ -1,22 +1,33 @@
 -- The cases of the pending lists, from the tests that the code makes.
-use Prim.Native.Nat.{ℕ, _+_, _<_, _≤_}
+use Prim.Native.Nat.{ℕ, _+_, _-_, _<_, _≤_}
 use mathlib.Core.Path.{_≡_, refl, sym}
-use mathlib.Core.Bool.{Bool, true, false, not, _&&_}
+use mathlib.Core.Bool.{Bool, true, false, cond, _&&_}
 use lib.ListN.{length, set, getD}
 use native.Mathlib.Omega.{arith}
 use lib.Dec.{leb, eqb}
-use borrow.Author.Tests.{lt-ltb, le-ltb, eqb-true, leb-true}
+use borrow.Author.Tests.{lt-ltb, le-ltb, ltb-true, eqb-true, eq-eqb, ne-eqb, leb-true}
 use Rattle.refusal.specs.Stops.{refusalOf}
-use Rattle.pending.specs.Pending.{Lists, lists, listsFit, fullAt, full, appended, appendAnswer, appendLists, entryAt}
+use Rattle.pending.specs.Pending.{Lists, lists, listsFit, roomAt, roomOf, lacks, appended, appendAnswer, appendLists, entryAt}
+use Rattle.pending.specs.declared.Room.the-variants.{Unlent, Left}
 use Rattle.pending.specs.declared.Appended.the-variants as A
 use Rattle.pending.specs.declared.Entry.the-variants as E
 
-no-room : (room count : ℕ) → fullAt room count ≡ true → room ≤ count
-no-room room count e = told (eqb room 0) e
+-- the room from the tests that the code makes
+pub no-list : (len count : ℕ) → len ≡ 0 → Unlent ≡ roomAt len count
+unfolding roomAt
+no-list len count e = rw (eq-eqb len 0 e)
+
+pub room-left : (len count left : ℕ) → 0 < len → left ≡ len - count → Left left ≡ roomAt len count
+unfolding roomAt
+room-left len count left h e = rw (ne-eqb len 0 (λ z. omega (arith, z)), e)
+
+no-room : (len count : ℕ) → lacks (roomAt len count) 1 ≡ true → len ≤ count
+unfolding lacks roomAt
+no-room len count e = told (eqb len 0) e
   where
-    told : (t : Bool) → (not t && leb room count) ≡ true → room ≤ count
+    told : (t : Bool) → lacks (cond t Unlent (Left (len - count))) 1 ≡ true → len ≤ count
     told true f = let z : _≡_ {A = ℕ} 0 1 = cc in absurd (omega arith)
-    told false f = leb-true _ _ f
+    told false f = let h : len - count < 1 = ltb-true _ _ f in omega arith
 
 module _ (v b pc : ℕ) (l : Lists) where
   pub no-place : length (l .values) ≤ l .count → l ≡ appended v b pc l
@@ -32,11 +43,11 @@ module _ (v b pc : ℕ) (l : Lists) where
   unfolding appendAnswer appendLists
   append-malformed e = rw e (refl, refl)
 
-  pub append-full : listsFit l ≡ true → full l ≡ true → (A.Refused (refusalOf 8 pc) ≡ appendAnswer v b pc l) × (appendLists v b pc l ≡ l)
+  pub append-full : listsFit l ≡ true → lacks (roomOf l) 1 ≡ true → (A.Refused (refusalOf 8 pc) ≡ appendAnswer v b pc l) × (appendLists v b pc l ≡ l)
   unfolding appendAnswer appendLists
   append-full e f = rw (e, f) (refl, sym (no-place (no-room (length (l .values)) (l .count) f)))
 
-  pub append-done : listsFit l ≡ true → full l ≡ false
+  pub append-done : listsFit l ≡ true → lacks (roomOf l) 1 ≡ false
       → (A.At ((appended v b pc l) .count) ≡ appendAnswer v b pc l) × (appendLists v b pc l ≡ appended v b pc l)
   unfolding appendAnswer appendLists
   append-done e f = rw (e, f) (refl, refl)

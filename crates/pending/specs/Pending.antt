@@ -1,12 +1,14 @@
 -- Pending checks: three lists of numbers and a count. Empty lists mean that none is lent.
-use Prim.Native.Nat.{ℕ, _+_}
-use mathlib.Core.Bool.{Bool, cond, not, _&&_}
-use mathlib.Core.List.{List}
+use Prim.Native.Nat.{ℕ, _+_, _-_}
+use mathlib.Core.Bool.{Bool, false, cond, _&&_}
+use mathlib.Core.List.{List, [], _∷_}
 use lib.ListN.{length, getD, set}
 use lib.Dec.{ltb, leb, eqb}
 use Rattle.refusal.specs.Stops.{refusalOf}
-use Rattle.pending.specs.declared.Check.{Check}
-use Rattle.pending.specs.declared.Check.the-variants.{Unneeded, Needed}
+use Rattle.pending.specs.declared.Checks.{Checks}
+use Rattle.pending.specs.declared.Checks.the-variants as C
+use Rattle.pending.specs.declared.Room.{Room}
+use Rattle.pending.specs.declared.Room.the-variants.{Unlent, Left}
 use Rattle.pending.specs.declared.Appended.{Appended}
 use Rattle.pending.specs.declared.Appended.the-variants as A
 use Rattle.pending.specs.declared.Entry.{Entry}
@@ -25,12 +27,17 @@ lists n vs bs ps = record { count = n; values = vs; bounds = bs; pcs = ps }
 abbrev pub listsFit : Lists → Bool
 listsFit l = eqb (length (l .bounds)) (length (l .values)) && eqb (length (l .pcs)) (length (l .values)) && leb (l .count) (length (l .values))
 
--- lent, and without room
-abbrev pub fullAt : ℕ → ℕ → Bool
-fullAt room count = not (eqb room 0) && leb room count
+-- how many checks more the lists take, by their length and the count; any number where none is lent
+unfoldable pub roomAt : ℕ → ℕ → Room
+roomAt len count = cond (eqb len 0) Unlent (Left (len - count))
 
-abbrev pub full : Lists → Bool
-full l = fullAt (length (l .values)) (l .count)
+abbrev pub roomOf : Lists → Room
+roomOf l = roomAt (length (l .values)) (l .count)
+
+-- whether n checks don't fit
+unfoldable pub lacks : Room → ℕ → Bool
+lacks Unlent n = false
+lacks (Left k) n = ltb k n
 
 -- the result's value, bound and pc at the next place, if there is one
 unfoldable pub appended : ℕ → ℕ → ℕ → Lists → Lists
@@ -39,14 +46,26 @@ appended v b pc l =
     (lists (l .count + 1) (set (l .values) (l .count) v) (set (l .bounds) (l .count) b) (set (l .pcs) (l .count) pc))
     l
 
-unfoldable pub listing : Check → ℕ → Lists → Lists
-listing Unneeded pc l = l
-listing (Needed b v) pc l = appended v b pc l
+-- the checks that a step asks for, in their order
+pub record Check : Type 0 where
+  pub value : ℕ
+  pub bound : ℕ
+
+abbrev pub check : ℕ → ℕ → Check
+check v b = record { value = v; bound = b }
+
+abbrev pub checksOf : Checks → List Check
+checksOf C.Nothing = []
+checksOf (C.One b v) = check v b ∷ []
+
+unfoldable pub listing : List Check → ℕ → Lists → Lists
+listing [] pc l = l
+listing (c ∷ cs) pc l = listing cs pc (appended (c .value) (c .bound) pc l)
 
 -- appending by itself: 9 for malformed lists, 8 where a list is lent and full
 unfoldable pub appendAnswer : ℕ → ℕ → ℕ → Lists → Appended
 appendAnswer v b pc l =
-    cond (listsFit l) (cond (full l) (A.Refused (refusalOf 8 pc)) (A.At ((appended v b pc l) .count))) (A.Refused (refusalOf 9 0))
+    cond (listsFit l) (cond (lacks (roomOf l) 1) (A.Refused (refusalOf 8 pc)) (A.At ((appended v b pc l) .count))) (A.Refused (refusalOf 9 0))
 
 unfoldable pub appendLists : ℕ → ℕ → ℕ → Lists → Lists
 appendLists v b pc l = cond (listsFit l) (appended v b pc l) l

@@ -4,13 +4,19 @@ ghost use mathlib.Core.Path.{_≡_};
 ghost use mathlib.Core.Bool.{_&&_};
 ghost use lib.Dec.{eqb, leb};
 ghost use lib.ListN.{set};
-ghost use Rattle.pending.specs.Pending.{lists, fullAt, appended, listing, appendAnswer, appendLists, emptied, entryAt};
+ghost use Rattle.pending.specs.Pending.{lists, roomAt, lacks, checksOf, appended, listing, appendAnswer, appendLists, emptied, entryAt};
 
-// The check that a step asks for, of its result. The bound comes first: LLVM would else store the last field and the mark of
-// `Unneeded` as one byte at a place that is chosen, and so keep checks in memory.
-pub enum Check {
-    Unneeded,
-    Needed { bound: u8, value: u64 },
+// The checks that a step asks for. The bound comes first: LLVM would else store the last field and the mark of `Nothing` as one
+// byte at a place that is chosen, and so keep checks in memory.
+pub enum Checks {
+    Nothing,
+    One { bound: u8, value: u64 },
+}
+
+// How many checks more a list takes; any number where none is lent.
+pub enum Room {
+    Unlent,
+    Left(usize),
 }
 
 pub enum Appended {
@@ -30,11 +36,27 @@ pub fn lists_fit(values: usize, widths: usize, pcs: usize, count: usize) -> bool
     (widths == values) & (pcs == values) & (count <= values)
 }
 
-// Whether a list is lent and has no room.
-pub fn full_at(room: usize, count: usize) -> bool
-    ensures { λ r. ⌜ r ≡ fullAt room count ⌝ }
+// The room of lists of a length, with so many in use.
+pub fn room_at(len: usize, count: usize) -> Room
+    ensures { λ r. ⌜ r ≡ roomAt len count ⌝ }
 {
-    (room != 0) & (room <= count)
+    if len == 0 {
+        return Room::Unlent;
+    }
+    if len <= count {
+        return Room::Left(0);
+    }
+    Room::Left(len - count)
+}
+
+// Whether so many checks don't fit.
+pub fn lacks(room: Room, checks: usize) -> bool
+    ensures { λ r. ⌜ r ≡ lacks room checks ⌝ }
+{
+    match room {
+        Room::Unlent => false,
+        Room::Left(left) => left < checks,
+    }
 }
 
 fn put_number(list: &mut [u64], at: usize, v: u64)
@@ -74,20 +96,20 @@ fn note(
     count + 1
 }
 
-// The check that a step asks for.
+// Lists the checks of a step at a pc, and answers the count then.
 pub fn list(
     values: &mut [u64],
     widths: &mut [u8],
     pcs: &mut [u64],
     count: usize,
-    check: Check,
+    checks: Checks,
     pc: u64,
 ) -> usize
-    ensures { λ r. ⌜ lists r (now (values .exit)) (now (widths .exit)) (now (pcs .exit)) ≡ listing check pc (lists count (now (values .entry)) (now (widths .entry)) (now (pcs .entry))) ⌝ }
+    ensures { λ r. ⌜ lists r (now (values .exit)) (now (widths .exit)) (now (pcs .exit)) ≡ listing (checksOf checks) pc (lists count (now (values .entry)) (now (widths .entry)) (now (pcs .entry))) ⌝ }
 {
-    match check {
-        Check::Unneeded => count,
-        Check::Needed { value, bound } => note(values, widths, pcs, count, value, bound, pc),
+    match checks {
+        Checks::Nothing => count,
+        Checks::One { bound, value } => note(values, widths, pcs, count, value, bound, pc),
     }
 }
 
@@ -106,7 +128,7 @@ pub fn append(
     if !lists_fit(values.len(), widths.len(), pcs.len(), count) {
         return Appended::Refused(Refusal::Malformed);
     }
-    if full_at(values.len(), count) {
+    if lacks(room_at(values.len(), count), 1) {
         return Appended::Refused(Refusal::ListFull { pc });
     }
     Appended::At(note(values, widths, pcs, count, value, width, pc))

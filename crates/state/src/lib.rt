@@ -14,15 +14,28 @@ pub struct State {
     pub bounds: [u8; 16],
 }
 
+// A state put together.
+pub fn together(
+    pc: u64,
+    halted: bool,
+    regs: [u64; 16],
+    accumulated: [bool; 16],
+    bounds: [u8; 16],
+) -> State
+    ensures { λ r. ⌜ r ≡ record { pc = pc; halted = halted; regs = regs; accumulated = accumulated; bounds = bounds } ⌝ }
+{
+    State {
+        pc,
+        halted,
+        regs,
+        accumulated,
+        bounds,
+    }
+}
+
 // "Fresh registers are whole 0, bound 0."
 pub fn fresh(pc: u64) -> State
     ensures { λ r. ⌜ r ≡ freshAt pc ⌝ }
 {
-    State {
-        pc,
-        halted: false,
-        regs: [0; 16],
-        accumulated: [false; 16],
-        bounds: [0; 16],
-    }
+    together(pc, false, [0; 16], [false; 16], [0; 16])
 }

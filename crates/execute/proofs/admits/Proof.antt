@@ -7,7 +7,7 @@ use Rattle.execute.proofs.admits.Statement.{statement}
 use Rattle.execute.proofs.admits.Tie as tie
 
 well-formed-requires : tie.Need-well-formed-requires
-well-formed-requires c κs = search needs
+well-formed-requires c κs = tt
 
 returns : tie.Need-returns
 returns c = sym (not-formed _ _ (sym (c .before .well-formed .ensures) ∙ not-true _ (c .if1 .taken)))
@@ -16,7 +16,7 @@ enum-told : tie.Need-enum-told
 enum-told c = search needs
 
 all-whole-requires : tie.Need-all-whole-requires
-all-whole-requires c κs = search needs
+all-whole-requires c κs = tt
 
 enum-told-2 : tie.Need-enum-told-2
 enum-told-2 c = search needs

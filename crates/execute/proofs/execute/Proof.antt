@@ -1,40 +1,55 @@
-use Rattle.instruction.proofs.Wholes.{joined-parts}
-use Rattle.execute.proofs.Admitting.{one-refused, one-executed}
+use Rattle.execute.proofs.Admitting.{not-admitted, not-encoded, encoded}
 use borrow.Author.Tests.{not-true, not-false}
 use mathlib.Core.Path.{sym, _∙_}
 use borrow.Author.Needs.{needs}
 use Rattle.execute.proofs.execute.Statement.{statement}
 use Rattle.execute.proofs.execute.Tie as tie
 
-takes-requires : tie.Need-takes-requires
-takes-requires c κs = search needs
+admits-requires : tie.Need-admits-requires
+admits-requires c κs = tt
 
 malformed-requires : tie.Need-malformed-requires
-malformed-requires c κs = search needs
+malformed-requires c κs = tt
 
 returns : tie.Need-returns
-returns c = rw (c .malformed .ensures) (one-refused _ _ _ _ (sym (c .before .before .takes .ensures) ∙ not-true _ (c .before .if1 .taken)))
+returns c = rw (c .malformed .ensures) (not-admitted _ _ _ _ (sym (c .before .before .admits .ensures) ∙ not-true _ (c .before .if1 .taken)))
 
-parts-of-requires : tie.Need-parts-of-requires
-parts-of-requires c κs = search needs
+encode-requires : tie.Need-encode-requires
+encode-requires c κs = tt
 
-execute-taken-requires : tie.Need-execute-taken-requires
-execute-taken-requires c κs = search needs
+enum-known-word : tie.Need-enum-known-word
+enum-known-word c = search needs
+
+execute-word-requires : tie.Need-execute-word-requires
+execute-word-requires c κs = tt
+
+enum-told : tie.Need-enum-told
+enum-told c = search needs
+
+malformed-requires-2 : tie.Need-malformed-requires-2
+malformed-requires-2 c κs = tt
 
 same-length : tie.Need-same-length
 same-length c = search needs
 
 returns-2 : tie.Need-returns-2
-returns-2 c = (rw (c .before .before .before .before .parts-of .ensures, joined-parts (c .before .before .before .before .before .before .before .before .args .i)) at (c .before .before .execute-taken .ensures)) ∙ one-executed _ _ _ _ (sym (c .before .before .before .before .before .before .takes .ensures) ∙ not-false _ (c .before .before .before .before .before .if1 .left))
+returns-2 c = encoded _ _ _ _ _ (sym (c .before .before .before .before .before .word .given .1) ∙ c .before .before .before .before .before .before .before .encode .ensures) (sym (c .before .before .before .before .before .before .before .before .before .admits .ensures) ∙ not-false _ (c .before .before .before .before .before .before .before .before .if1 .left)) (c .before .before .execute-word .ensures)
+
+returns-3 : tie.Need-returns-3
+returns-3 c = rw (c .malformed2 .ensures) (not-encoded _ _ _ _ _ _ (c .before .before .before .encode .ensures) (c .before .enum-told .given .1))
 
 pub execute-spec : {M : Type 1} → statement M
 execute-spec =
     tie.close
     (tie.spec
-    takes-requires
+    admits-requires
     malformed-requires
     returns
-    parts-of-requires
-    execute-taken-requires
+    encode-requires
+    enum-known-word
+    execute-word-requires
+    enum-told
+    malformed-requires-2
     same-length
-    returns-2)
+    returns-2
+    returns-3)

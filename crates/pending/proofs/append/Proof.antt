@@ -1,6 +1,7 @@
 use Rattle.pending.specs.declared.Appended.the-variants.{At}
 use Rattle.pending.proofs.Lists.{append-malformed, append-full, append-done}
-use Rattle.pending.specs.Pending.{Lists}
+use Rattle.pending.specs.Pending.{Lists, lacks}
+use Rattle.pending.specs.declared.Room.{Room}
 use borrow.Author.Tests.{not-true, not-false}
 use mathlib.Core.Path.{sym, _∙_, ap}
 use Rattle.pending.proofs.append.Statement.{statement}
@@ -12,11 +13,14 @@ lists-fit-requires c κs = tt
 returns : tie.Need-returns
 returns c = let t = append-malformed _ _ _ _ (sym (c .before .lists-fit .ensures) ∙ not-true _ (c .if1 .taken)) in (t .0, rw (t .1))
 
-full-at-requires : tie.Need-full-at-requires
-full-at-requires c κs = tt
+room-at-requires : tie.Need-room-at-requires
+room-at-requires c κs = tt
+
+lacks-requires : tie.Need-lacks-requires
+lacks-requires c κs = tt
 
 returns-2 : tie.Need-returns-2
-returns-2 c = let t = append-full _ _ _ _ (sym (c .before .before .before .lists-fit .ensures) ∙ not-false _ (c .before .before .if1 .left)) (sym (c .before .full-at .ensures) ∙ c .if2 .taken) in (t .0, rw (t .1))
+returns-2 c = let t = append-full _ _ _ _ (sym (c .before .before .before .before .lists-fit .ensures) ∙ not-false _ (c .before .before .before .if1 .left)) (ap (λ (r : Room). lacks r 1) (sym (c .before .before .room-at .ensures)) ∙ sym (c .before .lacks .ensures) ∙ c .if2 .taken) in (t .0, rw (t .1))
 
 note-requires : tie.Need-note-requires
 note-requires c κs = tt
@@ -31,7 +35,7 @@ same-length-3 : tie.Need-same-length-3
 same-length-3 c = c .before .pcs .given
 
 returns-3 : tie.Need-returns-3
-returns-3 c = let t = append-done _ _ _ _ (sym (c .before .before .before .before .before .before .before .before .before .before .before .before .before .lists-fit .ensures) ∙ not-false _ (c .before .before .before .before .before .before .before .before .before .before .before .before .if1 .left)) (sym (c .before .before .before .before .before .before .before .before .before .before .before .full-at .ensures) ∙ c .before .before .before .before .before .before .before .before .before .before .if2 .left) in (ap (λ (l : Lists). At (l .count)) (c .before .before .before .before .before .before .note .ensures) ∙ t .0, rw (t .1, ← c .before .before .before .before .before .before .note .ensures))
+returns-3 c = let t = append-done _ _ _ _ (sym (c .before .before .before .before .before .before .before .before .before .before .before .before .before .before .lists-fit .ensures) ∙ not-false _ (c .before .before .before .before .before .before .before .before .before .before .before .before .before .if1 .left)) (ap (λ (r : Room). lacks r 1) (sym (c .before .before .before .before .before .before .before .before .before .before .before .before .room-at .ensures)) ∙ sym (c .before .before .before .before .before .before .before .before .before .before .before .lacks .ensures) ∙ c .before .before .before .before .before .before .before .before .before .before .if2 .left) in (ap (λ (l : Lists). At (l .count)) (c .before .before .before .before .before .before .note .ensures) ∙ t .0, rw (t .1, ← c .before .before .before .before .before .before .note .ensures))
 
 pub append-spec : {M : Type 1} → statement M
 append-spec =
@@ -39,7 +43,8 @@ append-spec =
     (tie.spec
     lists-fit-requires
     returns
-    full-at-requires
+    room-at-requires
+    lacks-requires
     returns-2
     note-requires
     same-length

@@ -5,8 +5,8 @@ use Rattle.pending.proofs.list.Tie as tie
 enum-told : tie.Need-enum-told
 enum-told c = c .match .keys1
 
-enum-known-check : tie.Need-enum-known-check
-enum-known-check c = c .match .keys2
+enum-known-checks : tie.Need-enum-known-checks
+enum-known-checks c = c .match .keys2
 
 note-requires : tie.Need-note-requires
 note-requires c κs = tt
@@ -26,14 +26,14 @@ same-length-3 c = c .before .pcs .given
 
 returns-2 : tie.Need-returns-2
 unfolding listing
-returns-2 c = rw (c .before .before .before .before .before .before .before .before .before .before .before .check .given .1) (c .before .before .before .before .before .before .note .ensures)
+returns-2 c = rw (c .before .before .before .before .before .before .before .before .before .before .before .checks .given .1) (c .before .before .before .before .before .before .note .ensures)
 
 pub list-spec : {M : Type 1} → statement M
 list-spec =
     tie.close
     (tie.spec
     enum-told
-    enum-known-check
+    enum-known-checks
     note-requires
     returns
     same-length

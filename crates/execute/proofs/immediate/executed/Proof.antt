@@ -1,0 +1,22 @@
+use Rattle.execute.proofs.Finish.{on-limbs, not-on-limbs}
+use Rattle.execute.proofs.immediate.executed.Statement.{statement}
+use Rattle.execute.proofs.immediate.executed.Tie as tie
+
+limbs-requires : tie.Need-limbs-requires
+limbs-requires c κs = c .before .before .before .before .before .pre
+
+onward-requires : tie.Need-onward-requires
+onward-requires c κs = tt
+
+returns : tie.Need-returns
+returns c = rw (c .onward .ensures) (on-limbs _ _ _ _ _ _ (rw (c .before .if1 .taken) at (c .before .before .limbs .ensures)))
+
+wholly-requires : tie.Need-wholly-requires
+wholly-requires c κs = c .before .before .before .before .before .before .before .before .before .before .pre
+
+returns-2 : tie.Need-returns-2
+returns-2 c = not-on-limbs _ _ _ _ _ _ _ (rw (c .before .before .before .before .if1 .left) at (c .before .before .before .before .before .limbs .ensures)) (c .wholly .ensures)
+
+pub executed-spec : {M : Type 1} → statement M
+executed-spec =
+    tie.close (tie.spec limbs-requires onward-requires returns wholly-requires returns-2)
