@@ -2,12 +2,13 @@
 use Prim.Native.Nat.{ℕ, _+_, _-_, _<_, _≤_}
 use mathlib.Core.Path.{_≡_, refl, sym}
 use mathlib.Core.Bool.{Bool, true, false, cond, _&&_}
+use mathlib.Core.List.{List, [], _∷_}
 use lib.ListN.{length, set, getD}
 use native.Mathlib.Omega.{arith}
 use lib.Dec.{leb, eqb}
 use borrow.Author.Tests.{lt-ltb, le-ltb, ltb-true, eqb-true, eq-eqb, ne-eqb, leb-true}
 use Rattle.refusal.specs.Stops.{refusalOf}
-use Rattle.pending.specs.Pending.{Lists, lists, listsFit, roomAt, roomOf, lacks, appended, appendAnswer, appendLists, entryAt}
+use Rattle.pending.specs.Pending.{Lists, lists, Check, listing, listsFit, roomAt, roomOf, lacks, appended, appendAnswer, appendLists, entryAt}
 use Rattle.pending.specs.declared.Room.the-variants.{Unlent, Left}
 use Rattle.pending.specs.declared.Appended.the-variants as A
 use Rattle.pending.specs.declared.Entry.the-variants as E
@@ -76,3 +77,19 @@ fits-mean l e = told (eqb (length (l .bounds)) (length (l .values))) (eqb (lengt
     told true true p q t = (eqb-true _ _ p, eqb-true _ _ q, leb-true _ _ t)
     told true false p q t = let z : _≡_ {A = ℕ} 0 1 = cc in absurd (omega arith)
     told false b p q t = let z : _≡_ {A = ℕ} 0 1 = cc in absurd (omega arith)
+
+-- where no list is lent, nothing is listed
+no-list-lent : (len count : ℕ) → roomAt len count ≡ Unlent → len ≡ 0
+unfolding roomAt
+no-list-lent len count e = told (eqb len 0) refl e
+  where
+    told : (t : Bool) → eqb len 0 ≡ t → cond t Unlent (Left (len - count)) ≡ Unlent → len ≡ 0
+    told true q f = eqb-true _ _ q
+    told false q f = let z : _≡_ {A = ℕ} 0 1 = cc in absurd (omega arith)
+
+pub unlent-stays : (cs : List Check) (pc : ℕ) (l : Lists) → roomOf l ≡ Unlent → listing cs pc l ≡ l
+unfolding listing
+unlent-stays [] pc l e = refl
+unlent-stays (c ∷ cs) pc l e =
+    let z = no-list-lent (length (l .values)) (l .count) e in
+    rw (← no-place (c .value) (c .bound) pc l (omega (arith, z))) (unlent-stays cs pc l e)

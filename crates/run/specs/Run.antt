@@ -1,6 +1,6 @@
 -- The fuelled run, by recursion on the fuel.
 use Prim.Native.Nat.{ℕ, zero, suc, _+_}
-use mathlib.Core.Bool.{Bool, true, false, cond, _&&_}
+use mathlib.Core.Bool.{cond, _&&_}
 use mathlib.Core.List.{List}
 use Rattle.refusal.specs.Stops.{refusalOf}
 use Rattle.refusal.specs.declared.Stop.{Stop}
@@ -11,7 +11,9 @@ use Rattle.execute.specs.declared.Mode.{Mode}
 use Rattle.execute.specs.declared.Went.{Went}
 use Rattle.execute.specs.declared.Went.the-variants as W
 use Rattle.pending.specs.Pending.{Lists, lists, listsFit}
-use Rattle.step.specs.Step.{Rules, Left, stepOf}
+use Rattle.execute.specs.Rules.{Rules}
+use Rattle.step.specs.Step.{Left, stepOf}
+use Rattle.step.specs.Leg.{goesOn, counted}
 use Rattle.run.specs.declared.Ran.{Ran}
 
 pub record Answer : Type 0 where
@@ -27,25 +29,12 @@ answer p n w l = record { stop = p; steps = n; world = w; lists = l }
 abbrev pub after : ℕ → Answer → Answer
 after n a = answer (a .stop) (n + a .steps) (a .world) (a .lists)
 
--- "A run stops on fuel, Ebreak, Ecall or a refusal": whether a step goes on, and else its stop
-unfoldable pub goesOn : Went → Bool
-goesOn W.On = true
-goesOn W.Ebreak = false
-goesOn W.Ecall = false
-goesOn (W.Refused r) = false
-
+-- the stop of a step that doesn't go on
 unfoldable pub stopOf : Went → Stop
 stopOf W.On = S.Fuel
 stopOf W.Ebreak = S.Ebreak
 stopOf W.Ecall = S.Ecall
 stopOf (W.Refused r) = S.Refused r
-
--- "Ebreak and Ecall count, a refused one doesn't"
-unfoldable pub counted : Went → ℕ
-counted W.On = 1
-counted W.Ebreak = 1
-counted W.Ecall = 1
-counted (W.Refused r) = 0
 
 unfoldable pub following : Left → (World → Lists → Answer) → Answer
 following s rest = cond (goesOn (s .went)) (after 1 (rest (s .world) (s .lists))) (answer (stopOf (s .went)) (counted (s .went)) (s .world) (s .lists))

@@ -1,44 +1,29 @@
 -- A single step: the word at the pc is fetched, decoded and executed.
-use Prim.Native.Nat.{ℕ}
-use mathlib.Core.Bool.{Bool, cond, _&&_}
+use mathlib.Core.Bool.{cond, _&&_}
 use mathlib.Core.List.{List}
+use Prim.Native.Nat.{ℕ}
 use Rattle.refusal.specs.Stops.{refusalOf}
 use Rattle.memory.specs.Memory.{fetchOf}
 use Rattle.memory.specs.declared.Fetched.{Fetched}
 use Rattle.memory.specs.declared.Fetched.the-variants as F
-use Rattle.opcode.specs.Opcodes.{opcodeNumber}
-use Rattle.opcode.specs.declared.Opcode.{Opcode}
 use Rattle.words.specs.Words.{decodeIn}
-use Rattle.words.specs.declared.Decoded.{Decoded}
-use Rattle.words.specs.declared.Decoded.the-variants as D
-use Rattle.effect.specs.Notes.{Notes, documentNotes}
-use Rattle.execute.specs.World.{World, world, worldOf, Stepped, refused}
-use Rattle.execute.specs.Execute.{execute, admits}
+use Rattle.execute.specs.World.{World, worldOf, Stepped, refused}
+use Rattle.execute.specs.Execute.{admits}
+use Rattle.execute.specs.Rules.{Rules, obey}
 use Rattle.execute.specs.declared.Mode.{Mode}
 use Rattle.execute.specs.declared.Went.{Went}
 use Rattle.execute.specs.declared.Went.the-variants as W
-use Rattle.pending.specs.Pending.{Lists, lists, listsFit, full, listing}
+use Rattle.pending.specs.Pending.{Lists, lists, listsFit, roomOf, listing}
+use Rattle.pending.specs.declared.Room.{Room}
 use Rattle.step.specs.declared.OneStep.{OneStep}
 
--- the choices of a run: the numbers of the opcodes, and the notes of bounds
-pub record Rules : Type 0 where
-  pub number : Opcode → ℕ
-  pub notes : Notes
+-- "A step tests 9, 6, 7, 4, 5, then 1, or 3 and 2, then 8": 6 and 7 as the word is fetched
+unfoldable pub fetched : Mode → Room → Rules → Fetched → World → Stepped
+fetched k room R (F.Word x) w = obey k room R (decodeIn (R .number) x) w
+fetched k room R (F.Refused r) w = refused r w
 
-abbrev pub documentRules : Rules
-documentRules = record { number = opcodeNumber; notes = documentNotes }
-
--- "A step tests 9, 6, 7, 4, 5, then 1, or 3 and 2, then 8": 6 and 7 as the word is fetched, 4 and 5 as it is decoded
-unfoldable pub obey : Mode → Bool → Rules → Decoded → World → Stepped
-obey k full R (D.Instruction i) w = execute k full (R .notes) i w
-obey k full R (D.Refused r) w = refused r w
-
-unfoldable pub fetched : Mode → Bool → Rules → Fetched → World → Stepped
-fetched k full R (F.Word x) w = obey k full R (decodeIn (R .number) x) w
-fetched k full R (F.Refused r) w = refused r w
-
-abbrev pub stepIn : Mode → Bool → Rules → World → Stepped
-stepIn k full R w = fetched k full R (fetchOf (w .memory) (w .pc)) w
+abbrev pub stepIn : Mode → Room → Rules → World → Stepped
+stepIn k room R w = fetched k room R (fetchOf (w .memory) (w .pc)) w
 
 -- what a step leaves, with the pending checks
 pub record Left : Type 0 where
@@ -49,11 +34,11 @@ pub record Left : Type 0 where
 abbrev pub left : Went → World → Lists → Left
 left g w l = record { went = g; world = w; lists = l }
 
--- the check that it asks for is listed, where a list is lent; 8 if that is full
+-- the checks that it asks for are listed, where a list is lent; 8 if they don't fit
 unfoldable pub stepOf : Mode → Rules → World → Lists → Left
 stepOf k R w l =
-    let s = stepIn k (full l) R w in
-    left (s .went) (s .world) (listing (s .check) (w .pc) l)
+    let s = stepIn k (roomOf l) R w in
+    left (s .went) (s .world) (listing (s .checks) (w .pc) l)
 
 -- 9 first; the mark is ignored
 unfoldable pub step : Mode → Rules → World → Lists → Left

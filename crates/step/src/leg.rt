@@ -34,7 +34,8 @@ pub fn goes_on(went: Went) -> bool
 {
     match went {
         Went::On => true,
-        Went::Ebreak | Went::Ecall => false,
+        Went::Ebreak => false,
+        Went::Ecall => false,
         Went::Refused(_) => false,
     }
 }
@@ -43,7 +44,9 @@ fn counted(went: Went) -> u64
     ensures { λ r. ⌜ (r ≡ counted went) × (r ≤ 1) ⌝ }
 {
     match went {
-        Went::On | Went::Ebreak | Went::Ecall => 1,
+        Went::On => 1,
+        Went::Ebreak => 1,
+        Went::Ecall => 1,
         Went::Refused(_) => 0,
     }
 }
