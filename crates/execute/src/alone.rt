@@ -2,8 +2,8 @@
 use crate::Advance;
 use crate::Mode;
 use crate::Start;
-use crate::refuse;
 use crate::Went;
+use crate::refuse;
 use opcode::Form;
 use opcode::Opcode;
 use pending::Checks;

@@ -2,12 +2,12 @@
 use crate::Advance;
 use crate::Mode;
 use crate::Start;
-use crate::refuse;
 use crate::carrying::Write;
 use crate::carrying::onward;
 use crate::carrying::parts;
 use crate::carrying::put;
 use crate::carrying::to;
+use crate::refuse;
 use effect::immediate;
 use effect::immediate::Source;
 use effect::immediate::Turn;
@@ -44,7 +44,11 @@ fn carry(
         Turn::Writes { next, bound, value } => {
             let choices = start.choices;
             let mode = choices.mode;
-            let w = Write { rd: p.a, bound, value };
+            let w = Write {
+                rd: p.a,
+                bound,
+                value,
+            };
             put(mode, p.b, 0, w, regs, accumulated, bounds);
             to(start, next)
         }

@@ -2,13 +2,13 @@
 use crate::Advance;
 use crate::Mode;
 use crate::Start;
-use crate::refuse;
 use crate::Went;
 use crate::carrying::Write;
 use crate::carrying::onward;
 use crate::carrying::parts;
 use crate::carrying::put;
 use crate::carrying::settle;
+use crate::refuse;
 use effect::registers::Deed;
 use effect::registers::Operands;
 use effect::registers::decide;
@@ -59,7 +59,11 @@ fn carry(
     let mode = choices.mode;
     match deed {
         Deed::Writes { bound, value } => {
-            let w = Write { rd: p.a, bound, value };
+            let w = Write {
+                rd: p.a,
+                bound,
+                value,
+            };
             put(mode, p.b, p.c, w, regs, accumulated, bounds);
             onward(start)
         }
@@ -68,7 +72,11 @@ fn carry(
             if pending::lacks(room, 1) {
                 return refuse(start, Refusal::ListFull { pc: start.pc });
             }
-            let w = Write { rd: p.a, bound, value };
+            let w = Write {
+                rd: p.a,
+                bound,
+                value,
+            };
             put(mode, p.b, p.c, w, regs, accumulated, bounds);
             checked(start, bound, value)
         }

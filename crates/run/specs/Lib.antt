@@ -1,2 +1,2 @@
 pub mod Run
-pub mod Leg
+pub mod Legs

@@ -1,29 +1,25 @@
-// A run as its legs, over whatever list of checks: whoever goes through them lists what each leg asks for.
-use crate::Ran;
+// A run as its legs: where it begins, and where it is after a leg. Whoever goes through the legs lists what each asks for, in its
+// own form.
 use execute::Choices;
 use execute::Went;
-use pending::Checks;
-use pending::room_at;
 use refusal::Refusal;
 use refusal::Stop;
 use state::State;
-use step::leg;
+use step::leg::Gone;
+use step::leg::goes_on;
 ghost use mathlib.Core.Path.{_≡_};
+ghost use Prim.Native.Nat.{_-_};
 ghost use Rattle.run.specs.Run.{stopOf};
+ghost use Rattle.run.specs.Legs.{begun, next};
 
-// A run on its way: whether it goes on, and the steps that it may still take.
+// A run on its way: whether it goes on, how many steps it may still take, and what it answers if it does not go on.
 pub struct Going {
     pub on: bool,
     pub choices: Choices,
     pub left: u64,
-    pub ran: Ran,
-}
-
-// After a leg, what is to be listed, and its pc.
-pub struct Turned {
-    pub next: Going,
-    pub checks: Checks,
-    pub pc: u64,
+    pub stop: Stop,
+    pub steps: u64,
+    pub state: State,
 }
 
 pub fn stop_of(went: Went) -> Stop
@@ -37,50 +33,50 @@ pub fn stop_of(went: Went) -> Stop
     }
 }
 
-// Where a run begins: refused (9) unless its arguments are taken, and stopped where the state is halted.
-pub fn begin(choices: Choices, s: State, fuel: u64, taken: bool, count: usize) -> Going {
-    let stop = if taken {
-        Stop::Ebreak
-    } else {
-        Stop::Refused(Refusal::Malformed)
-    };
+// `taken` says whether the arguments are such as a run takes: 9 otherwise.
+pub fn begin(choices: Choices, s: State, fuel: u64, taken: bool) -> Going
+    ensures { λ r. ⌜ r ≡ begun choices s fuel taken ⌝ }
+{
+    if !taken {
+        return Going {
+            on: false,
+            choices,
+            left: fuel,
+            stop: Stop::Refused(Refusal::Malformed),
+            steps: 0,
+            state: s,
+        };
+    }
     Going {
-        on: taken & !s.halted,
+        on: !s.halted,
         choices,
         left: fuel,
-        ran: Ran {
-            stop,
-            steps: 0,
-            count,
-            state: s,
-        },
+        stop: Stop::Ebreak,
+        steps: 0,
+        state: s,
     }
 }
 
-// One leg, by the length of the list.
-pub fn turn(r: Going, len: usize, m: &mut [u8]) -> Turned {
-    let ran = r.ran;
+fn less(left: u64, steps: u64) -> u64
+    ensures { λ r. ⌜ r ≡ left - steps ⌝ }
+{
+    if left < steps { 0 } else { left - steps }
+}
+
+// After a leg.
+pub fn after(r: Going, g: Gone) -> Going
+    ensures { λ t. ⌜ t ≡ next r g ⌝ }
+{
     let choices = r.choices;
-    let before = ran.state;
-    let g = leg::advance(choices, room_at(len, ran.count), before, r.left, m);
     let went = g.went;
-    let checks = g.checks;
     let state = g.state;
-    let left = r.left - g.steps;
-    let steps = std::num::wrapping_add_u64(ran.steps, g.steps);
-    Turned {
-        next: Going {
-            on: leg::goes_on(went) & (0 < left),
-            choices,
-            left,
-            ran: Ran {
-                stop: stop_of(went),
-                steps,
-                count: ran.count,
-                state,
-            },
-        },
-        checks,
-        pc: g.pc,
+    let left = less(r.left, g.steps);
+    Going {
+        on: goes_on(went) & (0 < left),
+        choices,
+        left,
+        stop: stop_of(went),
+        steps: std::num::wrapping_add_u64(r.steps, g.steps),
+        state,
     }
 }

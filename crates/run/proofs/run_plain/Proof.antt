@@ -1,25 +1,43 @@
+use Rattle.run.proofs.Loops.{begins}
+use native.Mathlib.Omega.{arith}
+use mathlib.Core.Path.{_∙_}
+use borrow.Author.Needs.{needs}
 use Rattle.run.proofs.run_plain.Statement.{statement}
 use Rattle.run.proofs.run_plain.Tie as tie
 
-run-in-requires : tie.Need-run-in-requires
-run-in-requires c κs = tt
+takes-requires : tie.Need-takes-requires
+takes-requires c κs = tt
+
+begin-requires : tie.Need-begin-requires
+begin-requires c κs = tt
+
+go-requires : tie.Need-go-requires
+go-requires c κs = rw (c .before .before .before .before .begin .ensures) (omega (arith, c .before .before .before .before .before .before .before .before .before .before .fits .fuel))
 
 same-length : tie.Need-same-length
-same-length c = c .before .before .before .before .before .before .before .m .given
+same-length c = search needs
 
 same-length-2 : tie.Need-same-length-2
-same-length-2 c = c .before .before .before .before .before .values .given
+same-length-2 c = search needs
 
 same-length-3 : tie.Need-same-length-3
-same-length-3 c = c .before .before .before .widths .given
+same-length-3 c = search needs
 
 same-length-4 : tie.Need-same-length-4
-same-length-4 c = c .before .pcs .given
+same-length-4 c = search needs
 
 returns : tie.Need-returns
-returns c = c .before .before .before .before .before .before .before .before .run-in .ensures
+returns c = c .before .before .before .before .before .before .before .before .go .ensures ∙ rw (c .before .before .before .before .before .before .before .before .before .before .before .before .before .begin .ensures) (begins _ _ _ _ _ _ (c .before .before .before .before .before .before .before .before .before .before .before .before .before .before .takes .ensures))
 
 pub run-plain-spec : {M : Type 1} → statement M
 run-plain-spec =
     tie.close
-    (tie.spec run-in-requires same-length same-length-2 same-length-3 same-length-4 returns)
+    (tie.spec
+    takes-requires
+    begin-requires
+    go-requires
+    same-length
+    same-length-2
+    same-length-3
+    same-length-4
+    returns)

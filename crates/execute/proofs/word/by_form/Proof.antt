@@ -1,5 +1,4 @@
 use mathlib.Core.Path.{sym, _∙_}
-
 use borrow.Author.Needs.{needs}
 use Rattle.execute.proofs.word.by_form.Statement.{statement}
 use Rattle.execute.proofs.word.by_form.Tie as tie

@@ -1,6 +1,6 @@
 use Rattle.run.specs.Run.{stopOf}
-use Rattle.run.proofs.stop_of.Statement.{statement}
-use Rattle.run.proofs.stop_of.Tie as tie
+use Rattle.run.proofs.legs.stop_of.Statement.{statement}
+use Rattle.run.proofs.legs.stop_of.Tie as tie
 
 enum-told : tie.Need-enum-told
 enum-told c = c .match .keys1
