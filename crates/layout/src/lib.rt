@@ -2,7 +2,8 @@
 // numbers (8 each).
 pub mod answer; // answer.rt: the bytes of an answer
 pub mod laid; // laid.rt: which bytes are those of a state
-pub mod reading; // reading.rt: the state in the bytes
+mod records; // records.rt: a register's record as three numbers
+pub mod reading; // reading.rt: the state in the bytes, and whether they are those of a state
 pub mod writing; // writing.rt: the bytes of a state
 
 pub const HEADER_BYTES: usize = 16;
