@@ -1,8 +1,11 @@
 -- Numbers in bytes, one after another, over the size.
 use Prim.Native.Nat.{ℕ, zero, suc, _+_, _*_, _/_, _%_, _^_, _<_, _≤_}
 use mathlib.Core.Path.{_≡_, refl, ap}
+use mathlib.Core.Bool.{Bool, true, false, _&&_}
 use mathlib.Core.List.{List, [], _∷_, _++_}
 use native.Mathlib.Omega.{arith}
+use lib.Dec.{ltb, leb, eqb, lit<}
+use borrow.Author.Tests.{lt-ltb, le-ltb, leb-true, leb-false, eqb-true, eqb-false}
 use lib.ListN.{length, take, drop, getD, length-drop, take-append-drop}
 use lib.Seq.{sets, drop-drop, getD-drop, take-all}
 use Rattle.memory.specs.Bytes.{number, bytes, numberAt, putAt}
@@ -43,3 +46,47 @@ pub read-next : (n : ℕ) (b : List ℕ) (at next : ℕ) {v : ℕ} → Small b �
 read-next n b at next small e fits read =
     let room : n ≤ length (drop at b) = simp length-drop (omega arith) in
     rw (read, bytes-number n (drop at b) (λ k. rw getD-drop (small (at + k))) room, ← e, ← drop-drop n at b) (take-append-drop n (drop at b))
+
+-- a number of one byte more: its lowest byte, and the number of those above it
+one-more : (n : ℕ) (b : List ℕ) (at : ℕ) → numberAt (suc n) b at ≡ numberAt n b (at + 1) * 256 + numberAt 1 b at
+unfolding number
+one-more n b at = rw (← drop-drop 1 at b) (by (drop at b))
+  where
+    none : (n : ℕ) → number (take n []) ≡ 0
+    none zero = refl
+    none (suc n) = refl
+
+    by : (l : List ℕ) → number (take (suc n) l) ≡ number (take n (drop 1 l)) * 256 + number (take 1 l)
+    by [] = rw (none n)
+    by (x ∷ l) = omega arith
+
+byte-small : (b : List ℕ) (at : ℕ) → Small b → numberAt 1 b at < 256
+unfolding number
+byte-small b at small = by (drop at b) (λ k. rw getD-drop (small (at + k)))
+  where
+    by : (l : List ℕ) → Small l → number (take 1 l) < 256
+    by [] low = lit< tt
+    by (x ∷ l) low = omega (arith, low 0)
+
+-- kind, bound and zeros in one number of eight bytes
+pub head-apart : (b : List ℕ) (at : ℕ) → Small b
+    → (numberAt 8 b at % 2 ^ 8 ≡ numberAt 1 b at) × (numberAt 8 b at / 2 ^ 8 % 2 ^ 8 ≡ numberAt 1 b (at + 1)) × (numberAt 8 b at / 2 ^ 16 ≡ numberAt 6 b (at + 2))
+head-apart b at small =
+    let e : at + 1 + 1 ≡ at + 2 = omega arith in
+    let above : numberAt 7 b (at + 1) ≡ numberAt 6 b (at + 2) * 256 + numberAt 1 b (at + 1) = rw e at (one-more 6 b (at + 1)) in
+    let whole = one-more 7 b at in
+    let kind = byte-small b at small in
+    let bound = byte-small b (at + 1) small in
+    (omega arith, omega arith, omega arith)
+
+-- the mark and its zeros are as laid down if they are a number below 2
+pub mark-laid : (b : List ℕ) → Small b → ltb (numberAt 8 b 8) 2 ≡ (leb (numberAt 1 b 8) 1 && eqb (numberAt 7 b 9) 0)
+mark-laid b small = by (leb (numberAt 1 b 8) 1) refl (eqb (numberAt 7 b 9) 0) refl
+  where
+    is : numberAt 8 b 8 ≡ numberAt 7 b 9 * 256 + numberAt 1 b 8
+    is = one-more 7 b 8
+
+    by : (t : Bool) → leb (numberAt 1 b 8) 1 ≡ t → (u : Bool) → eqb (numberAt 7 b 9) 0 ≡ u → ltb (numberAt 8 b 8) 2 ≡ (t && u)
+    by true e true f = lt-ltb (numberAt 8 b 8) 2 (omega (arith, is, leb-true (numberAt 1 b 8) 1 e, eqb-true (numberAt 7 b 9) 0 f))
+    by true e false f = le-ltb (numberAt 8 b 8) 2 (omega (arith, is, eqb-false (numberAt 7 b 9) 0 f))
+    by false e u f = le-ltb (numberAt 8 b 8) 2 (omega (arith, is, leb-false (numberAt 1 b 8) 1 e))

@@ -3,6 +3,7 @@ use crate::HEADER_BYTES;
 use crate::LIMB_LIMIT;
 use crate::RECORD_BYTES;
 use crate::STATE_BYTES;
+use crate::records::Record;
 use memory::bytes::put_number;
 use state::State;
 ghost use mathlib.Core.Path.{_≡_};
@@ -15,13 +16,6 @@ ghost use Rattle.state.specs.Held.{heldOf};
 ghost use Rattle.state.specs.Registers.{registers};
 ghost use Rattle.layout.specs.Layout.{HEADER_BYTES, STATE_BYTES, markOf, recordBytes, records, stateBytes, written};
 ghost use Rattle.layout.specs.Numbers.{numbersOf};
-
-// A register's record as three numbers: kind, bound and six zeros are the first.
-struct Record {
-    head: u64,
-    first: u64,
-    second: u64,
-}
 
 fn mark_of(halted: bool) -> u64
     ensures { λ r. ⌜ r ≡ markOf halted ⌝ }

@@ -1,5 +1,6 @@
 // Numbers in bytes, little-endian.
 ghost use mathlib.Core.Path.{_≡_};
+ghost use mathlib.Core.Bool.{true};
 ghost use Prim.Native.Nat.{_+_, _-_, _≤_, _<_, _^_, min};
 ghost use lib.ListN.{length};
 ghost use Rattle.memory.specs.Bytes.{numberAt, putAt};
@@ -59,8 +60,20 @@ fn there(len: usize, at: usize, n: usize) -> usize
     if n < len - at { n } else { len - at }
 }
 
-// The number in at most eight bytes from `at` on.
-pub fn number_at(m: &[u8], at: usize, n: usize) -> u64
+// Whether they are few and all there. Their number is then still the caller's constant, and they are one load or store.
+fn all_there(len: usize, at: usize, n: usize) -> bool
+    ensures { λ r. ⌜ (r ≡ true → (n ≤ 8) × (at + n ≤ len)) ⌝ }
+{
+    if 8 < n {
+        return false;
+    }
+    if len < n {
+        return false;
+    }
+    at <= len - n
+}
+
+fn part_at(m: &[u8], at: usize, n: usize) -> u64
     ensures { λ r. ⌜ r ≡ numberAt (min n 8) (now (m .entry)) at ⌝ }
 {
     let here = there(m.len(), at, n);
@@ -73,12 +86,32 @@ pub fn number_at(m: &[u8], at: usize, n: usize) -> u64
     word_at(m, at, here)
 }
 
-// Writes the low n bytes of a number from `at` on, as far as there is room.
-pub fn put_number(m: &mut [u8], at: usize, n: usize, value: u64)
+// The number in at most eight bytes from `at` on.
+pub fn number_at(m: &[u8], at: usize, n: usize) -> u64
+    ensures { λ r. ⌜ r ≡ numberAt (min n 8) (now (m .entry)) at ⌝ }
+{
+    if all_there(m.len(), at, n) {
+        return word_at(m, at, n);
+    }
+    part_at(m, at, n)
+}
+
+fn put_part(m: &mut [u8], at: usize, n: usize, value: u64)
     ensures { λ _. ⌜ now (m .exit) ≡ putAt n (now (m .entry)) at value ⌝ }
 {
     let here = there(m.len(), at, n);
     if 0 < here {
         store_at(m, at, here, value);
     }
+}
+
+// Writes the low n bytes of a number from `at` on, as far as there is room.
+pub fn put_number(m: &mut [u8], at: usize, n: usize, value: u64)
+    ensures { λ _. ⌜ now (m .exit) ≡ putAt n (now (m .entry)) at value ⌝ }
+{
+    if all_there(m.len(), at, n) {
+        store_at(m, at, n, value);
+        return;
+    }
+    put_part(m, at, n, value);
 }

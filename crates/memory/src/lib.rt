@@ -143,8 +143,7 @@ pub fn storable(len: usize, address: u64, size: Size) -> Stored
     }
 }
 
-// Stores the value's low bytes, as many as the size.
-pub fn store(m: &mut [u8], address: u64, size: Size, value: u64) -> Stored
+fn store_sized(m: &mut [u8], address: u64, size: Size, value: u64) -> Stored
     ensures { λ r. ⌜ (r ≡ storeOf size (length (now (m .entry))) address) × (now (m .exit) ≡ memoryAfter size (now (m .entry)) address value) ⌝ }
 {
     match storable(m.len(), address, size) {
@@ -153,6 +152,18 @@ pub fn store(m: &mut [u8], address: u64, size: Size, value: u64) -> Stored
             Stored::Done
         }
         Stored::Refused(r) => Stored::Refused(r),
+    }
+}
+
+// Stores the value's low bytes, as many as the size. Each size by itself, so that the compiler makes one store of the bytes.
+pub fn store(m: &mut [u8], address: u64, size: Size, value: u64) -> Stored
+    ensures { λ r. ⌜ (r ≡ storeOf size (length (now (m .entry))) address) × (now (m .exit) ≡ memoryAfter size (now (m .entry)) address value) ⌝ }
+{
+    match size {
+        Size::Byte => store_sized(m, address, Size::Byte, value),
+        Size::Half => store_sized(m, address, Size::Half, value),
+        Size::Word => store_sized(m, address, Size::Word, value),
+        Size::Double => store_sized(m, address, Size::Double, value),
     }
 }
 

@@ -3,4 +3,4 @@ pub mod Order
 pub mod Products
 pub mod Patterns
 pub mod Quotients
-pub mod Widened
+pub mod Signs

@@ -1,32 +1,10 @@
 // Division of all 64 bits. The caller refuses a divisor of 0 first; here it answers as the definitions do.
+use crate::signed::pattern;
+use crate::signed::reading;
 ghost use mathlib.Core.Path.{_≡_};
 ghost use mathlib.Core.Bool.{true, false};
 ghost use Prim.Native.Nat.{_-_, _^_};
-ghost use mir.Syntax.{w64};
-ghost use mir.Val.{toZ, ofZ};
 ghost use Rattle.value.specs.Division.{divOf, remOf, divuOf, remuOf};
-
-// The pattern, read as signed.
-fn reading(x: u64) -> i64
-    ensures { λ r. ⌜ r ≡ toZ w64 x ⌝ }
-{
-    if x < 0x8000_0000_0000_0000 {
-        x as i64
-    } else {
-        -1 - ((0xFFFF_FFFF_FFFF_FFFF - x) as i64)
-    }
-}
-
-// The pattern of a signed number.
-fn pattern(z: i64) -> u64
-    ensures { λ r. ⌜ r ≡ ofZ w64 z ⌝ }
-{
-    if z < 0 {
-        0xFFFF_FFFF_FFFF_FFFF - ((-1 - z) as u64)
-    } else {
-        z as u64
-    }
-}
 
 // The one pair whose quotient no i64 holds: -2^63 by -1.
 fn overflows(a: u64, b: u64) -> bool

@@ -1,32 +1,36 @@
-use Rattle.memory.specs.Bytes.{bytes}
-use Rattle.memory.proofs.Numbers.{store-there}
-use native.Mathlib.Omega.{arith}
-use denote.Ref.{now}
-use lib.ListN.{length}
-use Prim.Native.Nat.{_-_, min}
-use mathlib.Core.Path.{_≡_, sym, _∙_}
 use borrow.Author.Needs.{needs}
 use Rattle.memory.proofs.bytes.put_number.Statement.{statement}
 use Rattle.memory.proofs.bytes.put_number.Tie as tie
 
-there-requires : tie.Need-there-requires
-there-requires c κs = search needs
+all-there-requires : tie.Need-all-there-requires
+all-there-requires c κs = search needs
 
 store-at-requires : tie.Need-store-at-requires
-store-at-requires c κs = search needs
+store-at-requires c κs = c .before .before .all-there .ensures (c .before .if1 .taken) .1
 
 same-length : tie.Need-same-length
 same-length c = search needs
 
 returns : tie.Need-returns
-returns c = c .before .before .store-at .ensures ∙ rw (c .before .before .before .before .before .there .ensures) (sym (store-there _ _ _ _))
+returns c = search needs
+
+put-part-requires : tie.Need-put-part-requires
+put-part-requires c κs = search needs
+
+same-length-2 : tie.Need-same-length-2
+same-length-2 c = search needs
 
 returns-2 : tie.Need-returns-2
-unfolding bytes
-returns-2 c = let a = c .before .before .before .args in
-    let none : min (a .n) (length (now (a .m)) - a .at) ≡ 0 = omega arith in
-    sym (store-there (a .n) (now (a .m)) (a .at) (a .value) ∙ rw none)
+returns-2 c = search needs
 
 pub put-number-spec : {M : Type 1} → statement M
 put-number-spec =
-    tie.close (tie.spec there-requires store-at-requires same-length returns returns-2)
+    tie.close
+    (tie.spec
+    all-there-requires
+    store-at-requires
+    same-length
+    returns
+    put-part-requires
+    same-length-2
+    returns-2)

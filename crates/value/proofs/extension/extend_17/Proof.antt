@@ -1,18 +1,18 @@
 use Prim.Native.Nat.{_%_, _^_}
-use native.Mathlib.Omega.{arith}
+use mathlib.Core.Path.{_∙_}
+use lib.Pow.{shl-shr}
 use borrow.Author.Needs.{needs}
-use Rattle.value.proofs.Widened.{widened}
 use Rattle.value.proofs.extension.extend_17.Statement.{statement}
 use Rattle.value.proofs.extension.extend_17.Tie as tie
 
-cast-extend : tie.Need-cast-extend
-cast-extend c = search needs
+mul-extend : tie.Need-mul-extend
+mul-extend c = search needs
 
 extend-requires : tie.Need-extend-requires
 extend-requires c κs = search needs
 
 returns : tie.Need-returns
-returns c = widened 16 (c .before .args .x % 2 ^ 17) _ (omega arith) (omega arith) (omega arith) (c .extend .ensures)
+returns c = c .extend .ensures ∙ rw (shl-shr (c .before .args .x % 2 ^ 17) 15)
 
 pub extend-17-spec : {M : Type 1} → statement M
-extend-17-spec = tie.close (tie.spec cast-extend extend-requires returns)
+extend-17-spec = tie.close (tie.spec mul-extend extend-requires returns)

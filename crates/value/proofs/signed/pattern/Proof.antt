@@ -3,8 +3,8 @@ use lib.IntN.{negsuc, _-ℤ_}
 use mir.Syntax.{w64}
 use mir.Facts.{toZ-ofZ}
 use Rattle.value.proofs.Patterns.{Writes, negative, Plain, plain}
-use Rattle.value.proofs.division.pattern.Statement.{statement}
-use Rattle.value.proofs.division.pattern.Tie as tie
+use Rattle.value.proofs.signed.pattern.Statement.{statement}
+use Rattle.value.proofs.signed.pattern.Tie as tie
 
 below : (c : tie.Then1) → Writes (c .before .args .z) (negsuc 0 -ℤ c .before .args .z)
 below c = negative (c .before .args .z) (c .before .fits .z) (rw (toZ-ofZ {w = w64} (c .before .fits .z)) at (c .if1 .taken))

@@ -1,8 +1,8 @@
 use borrow.Author.Tests.{eq-eqb, ne-eqb, lt-ltb, le-ltb}
 use Rattle.state.specs.Formed.{limbsFit}
 use Rattle.layout.specs.Layout.{numbersFit}
-use Rattle.layout.proofs.laid.numbers_fit.Statement.{statement}
-use Rattle.layout.proofs.laid.numbers_fit.Tie as tie
+use Rattle.layout.proofs.reading.numbers_fit.Statement.{statement}
+use Rattle.layout.proofs.reading.numbers_fit.Tie as tie
 
 returns : tie.Need-returns
 unfolding numbersFit limbsFit

@@ -1,8 +1,8 @@
 use native.Mathlib.Omega.{arith}
 use borrow.Author.Needs.{needs}
 use Rattle.value.proofs.Patterns.{high-fits, high-read}
-use Rattle.value.proofs.division.reading.Statement.{statement}
-use Rattle.value.proofs.division.reading.Tie as tie
+use Rattle.value.proofs.signed.reading.Statement.{statement}
+use Rattle.value.proofs.signed.reading.Tie as tie
 
 cast-result : tie.Need-cast-result
 cast-result c = search needs
