@@ -10,12 +10,13 @@ use Rattle.state.specs.Registers.{Registers, put, holds, noted}
 use Rattle.effect.specs.Operations.{plus64}
 use Rattle.effect.specs.Notes.{Notes}
 use Rattle.effect.specs.Effects.{seen, writing, effect}
-use Rattle.effect.specs.declared.Outcome.{Outcome}
-use Rattle.effect.specs.declared.Outcome.the-variants.{Does, Refuses}
+use Rattle.effect.specs.Outcomes.{Outcome, Does, Refuses}
 use Rattle.execute.specs.World.{World, Stepped, done}
 use Rattle.deferred.specs.Limbs.{sumOf, fits, sumInto, added, addedImm, covers, subtracted, limbs}
 use Rattle.execute.specs.Modes.{limbsIn, settle}
 use Rattle.execute.specs.Execute.{wholly, onward, finish, execute}
+use Rattle.pending.specs.declared.Room.the-variants.{Unlent}
+use Rattle.pending.specs.Pending.{lacks}
 use Rattle.execute.specs.declared.Mode.{Mode}
 use Rattle.execute.specs.declared.Mode.the-variants.{Plain, Deferred}
 use Rattle.deferred.proofs.Waiting.{fits-true, covers-true}
@@ -29,16 +30,16 @@ use Rattle.agreement.proofs.Reading.{seen-read, read-whole, read-put, r
 use Rattle.agreement.proofs.Sized.{sized-normalise}
 
 -- ---- on whole values, after what the mode normalises
-done-reads : (o : Outcome) (w : World) (R : Registers) → readStep (done false o w R) ≡ unchecked (done false o (readWorld w) (readAll R))
-unfolding done
+done-reads : (o : Outcome) (w : World) (R : Registers) → readStep (done Unlent o w R) ≡ unchecked (done Unlent o (readWorld w) (readAll R))
+unfolding done lacks
 done-reads (Refuses r) w R = refl
 done-reads (Does e) w R = rw read-whole
 
-wholly-reads : (N : Notes) (i : Instruction) (w : World) (R : Registers) → readStep (wholly false N i w R) ≡ unchecked (wholly false N i (readWorld w) (readAll R))
+wholly-reads : (N : Notes) (i : Instruction) (w : World) (R : Registers) → readStep (wholly Unlent N i w R) ≡ unchecked (wholly Unlent N i (readWorld w) (readAll R))
 wholly-reads N i w R = rw (seen-read (w .pc) R) (done-reads _ w R)
 
 settled-reads : (k : Mode) (N : Notes) (i : Instruction) (w : World)
-    → readStep (wholly false N i w (settle k i (w .registers))) ≡ unchecked (wholly false N i (readWorld w) (readAll (w .registers)))
+    → readStep (wholly Unlent N i w (settle k i (w .registers))) ≡ unchecked (wholly Unlent N i (readWorld w) (readAll (w .registers)))
 settled-reads k N i w = rw (wholly-reads N i w (settle k i (w .registers)), read-settle k i (w .registers))
 
 -- ---- on limbs: the registers, read
@@ -69,12 +70,12 @@ difference-reads N rd rs1 rs2 R z e =
 module _ (N : Notes) (w : World) (z : Sized (w .registers)) where
   -- the plain instruction on the values
   abbrev plainly : Instruction → Stepped
-  plainly i = unchecked (wholly false N i (readWorld w) (readAll (w .registers)))
+  plainly i = unchecked (wholly Unlent N i (readWorld w) (readAll (w .registers)))
 
   -- one that only writes
   plainly-writes : (i : Instruction) (t : Bool) (rd v b : ℕ) → effect N i (seen (w .pc) (w .registers)) (w .memory) ≡ writing t rd v b (plus64 (w .pc) 4)
       → onward (readWorld w) (put (readAll (w .registers)) rd (Whole v) b) ≡ plainly i
-  unfolding done
+  unfolding done lacks
   plainly-writes i t rd v b e = rw (seen-read (w .pc) (w .registers), e)
 
   -- the limb forms, with registers S that read so
@@ -82,10 +83,10 @@ module _ (N : Notes) (w : World) (z : Sized (w .registers)) where
       → effect N i (seen (w .pc) (w .registers)) (w .memory) ≡ writing t rd v b (plus64 (w .pc) 4) → readStep (onward w S) ≡ plainly i
   limbs-read i S t rd v b p e = ap (onward (readWorld w)) p ∙ plainly-writes i t rd v b e
 
-  limbs-agree : (i : Instruction) → readStep (finish Deferred false N i w (limbs N i (w .registers))) ≡ plainly i
+  limbs-agree : (i : Instruction) → readStep (finish Deferred Unlent N i w (limbs N i (w .registers))) ≡ plainly i
   unfolding finish effect seen valueOf
   limbs-agree =
-      limb-cases N (w .registers) (λ i l. readStep (finish Deferred false N i w l) ≡ plainly i)
+      limb-cases N (w .registers) (λ i l. readStep (finish Deferred Unlent N i w l) ≡ plainly i)
       (λ rd rs1 rs2.
       limbs-read (Add rd rs1 rs2) (added N rd rs1 rs2 (w .registers)) _ rd _ _
       (sum-reads rd _ _ _ (w .registers) _ z (sized-normalise rs2 _ (sized-normalise rs1 _ z)) (read-normalise rs2 _ ∙ read-normalise rs1 _))

@@ -12,7 +12,7 @@ use Rattle.execute.specs.World.{World, worldOf}
 use Rattle.execute.specs.Execute.{admits}
 use Rattle.execute.specs.declared.Mode.{Mode}
 use Rattle.execute.specs.declared.Mode.the-variants.{Plain, Deferred}
-use Rattle.step.specs.Step.{documentRules}
+use Rattle.execute.specs.Rules.{documentRules}
 use Rattle.run.specs.Run.{Answer, run}
 use Rattle.layout.specs.Layout.{table, stateIn, wellLaid}
 use Rattle.layout.specs.Answer.{ANSWER_BYTES, answerBytes}

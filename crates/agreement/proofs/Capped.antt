@@ -13,9 +13,7 @@ use Rattle.memory.specs.declared.Stored.the-variants as S
 use Rattle.effect.specs.Notes.{Notes, resultBits, documentNotes}
 use Rattle.effect.specs.Operations.{moves}
 use Rattle.effect.specs.Effects.{Seen, dividing, moving, onLoaded, onStorable, loading, storing, effect}
-use Rattle.effect.specs.declared.Effect.{Effect}
-use Rattle.effect.specs.declared.Outcome.{Outcome}
-use Rattle.effect.specs.declared.Outcome.the-variants.{Does, Refuses}
+use Rattle.effect.specs.Outcomes.{Effect, Outcome, Does, Refuses}
 use Rattle.instruction.specs.declared.Operation.{Operation}
 use Rattle.instruction.specs.declared.Operation.the-variants.{Mulh, And, Or, Xor, Sll, Srl, Sra, Slt, Sltu, Sge, Sgeu, Seq, Sne}
 use Rattle.instruction.specs.declared.Instruction.{Instruction}

@@ -9,7 +9,7 @@ use borrow.Fn.Kinds.{GoodsP}
 use Rattle.execute.specs.World.{World}
 use Rattle.execute.specs.declared.Mode.the-variants.{Plain, Deferred}
 use Rattle.pending.specs.Pending.{Lists}
-use Rattle.step.specs.Step.{documentRules}
+use Rattle.execute.specs.Rules.{documentRules}
 use Rattle.run.specs.Run.{run}
 use Rattle.run.proofs.run_deferred
 use Rattle.host.specs.Call.{Called, callOf}

@@ -3,6 +3,7 @@ use Prim.Native.Nat.{ℕ, zero, suc}
 use mathlib.Core.Path.{_≡_, refl}
 use mathlib.Core.Bool.{Bool, _&&_}
 use mathlib.Core.List.{List, [], _∷_}
+use lib.ListN.{length}
 use Rattle.memory.specs.Memory.{fetchOf}
 use Rattle.memory.specs.declared.Fetched.{Fetched}
 use Rattle.memory.specs.declared.Fetched.the-variants as F
@@ -10,14 +11,12 @@ use Rattle.state.specs.Held.{Held, Whole}
 use Rattle.state.specs.Registers.{Registers, put, normalise}
 use Rattle.effect.specs.Notes.{Notes}
 use Rattle.effect.specs.Effects.{Seen, effect}
-use Rattle.effect.specs.declared.Effect.{Effect}
-use Rattle.effect.specs.declared.Outcome.{Outcome}
-use Rattle.effect.specs.declared.Outcome.the-variants.{Does, Refuses}
+use Rattle.effect.specs.Outcomes.{Effect, Outcome, Does, Refuses}
 use Rattle.words.specs.Words.{decodeIn}
 use Rattle.words.specs.declared.Decoded.{Decoded}
 use Rattle.words.specs.declared.Decoded.the-variants as D
 use Rattle.instruction.specs.declared.Instruction.{Instruction}
-use Rattle.execute.specs.World.{World, Stepped, refused, does, done}
+use Rattle.execute.specs.World.{World, Stepped, refused, checksFor, does, done}
 use Rattle.deferred.specs.Limbs.{sumInto, subtracted}
 use Rattle.deferred.specs.Sources.{sources, normaliseEach}
 use Rattle.execute.specs.Modes.{limbsIn, settle}
@@ -25,8 +24,12 @@ use Rattle.execute.specs.Execute.{onward, finish, execute, admits}
 use Rattle.execute.specs.declared.Mode.{Mode}
 use Rattle.execute.specs.declared.Mode.the-variants.{Plain, Deferred}
 use Rattle.pending.specs.Pending.{Lists, listsFit}
-use Rattle.step.specs.Step.{Rules, obey, fetched, Left, left, stepOf, step}
-use Rattle.run.specs.Run.{Answer, answer, after, goesOn, following, loop, run}
+use Rattle.execute.specs.Rules.{Rules, obey}
+use Rattle.pending.specs.Pending.{lacks}
+use Rattle.pending.specs.declared.Room.{Room}
+use Rattle.step.specs.Step.{fetched, Left, left, stepOf, step}
+use Rattle.step.specs.Leg.{goesOn}
+use Rattle.run.specs.Run.{Answer, answer, after, following, loop, run}
 use Rattle.agreement.proofs.Cases.{cond-case, limb-cases}
 
 module _ (Q : Registers → Type 0) (N : Notes)
@@ -55,33 +58,33 @@ module _ (Q : Registers → Type 0) (N : Notes)
       (λ _. h)
       i
 
-  done-keeps : (full : Bool) (i : Instruction) (v : Seen) (o : Outcome) (w : World) (R : Registers) → effect N i v (w .memory) ≡ o → Q (w .registers) → Q R → Q ((done full o w R) .world .registers)
+  done-keeps : (room : Room) (i : Instruction) (v : Seen) (o : Outcome) (w : World) (R : Registers) → effect N i v (w .memory) ≡ o → Q (w .registers) → Q R → Q ((done room o w R) .world .registers)
   unfolding done
-  done-keeps full i v (Refuses r) w R p z h = z
-  done-keeps full i v (Does e) w R p z h =
-      cond-case (λ (s : Stepped). Q (s .world .registers)) (full && e .checked) (refused _ w) (does e (w .halted) R (w .memory))
+  done-keeps room i v (Refuses r) w R p z h = z
+  done-keeps room i v (Does e) w R p z h =
+      cond-case (λ (s : Stepped). Q (s .world .registers)) (lacks room (length (checksFor e))) (refused _ w) (does e (w .halted) R (w .memory))
       (λ _. z)
       (λ _. whole i v (w .memory) e R p h)
 
-  pub execute-keeps : (k : Mode) (full : Bool) (i : Instruction) (w : World) → Q (w .registers) → Q ((execute k full N i w) .world .registers)
+  pub execute-keeps : (k : Mode) (room : Room) (i : Instruction) (w : World) → Q (w .registers) → Q ((execute k room N i w) .world .registers)
   unfolding execute finish
-  execute-keeps k full i w h =
+  execute-keeps k room i w h =
       let l = limbsIn k N i (w .registers) in
       cond-case (λ (s : Stepped). Q (s .world .registers)) (l .waits) (onward w (l .registers)) _
       (λ _. limbs-keep k i (w .registers) h)
-      (λ _. done-keeps full i _ _ w _ refl h (settle-keeps k i (w .registers) h))
+      (λ _. done-keeps room i _ _ w _ refl h (settle-keeps k i (w .registers) h))
 
 module _ (Q : Registers → Type 0) (k : Mode) (R : Rules)
-    (keeps : (full : Bool) (i : Instruction) (w : World) → Q (w .registers) → Q ((execute k full (R .notes) i w) .world .registers)) where
-  obey-keeps : (full : Bool) (d : Decoded) (w : World) → Q (w .registers) → Q ((obey k full R d w) .world .registers)
+    (keeps : (room : Room) (i : Instruction) (w : World) → Q (w .registers) → Q ((execute k room (R .notes) i w) .world .registers)) where
+  obey-keeps : (room : Room) (d : Decoded) (w : World) → Q (w .registers) → Q ((obey k room R d w) .world .registers)
   unfolding obey
-  obey-keeps full (D.Instruction i) w h = keeps full i w h
-  obey-keeps full (D.Refused r) w h = h
+  obey-keeps room (D.Instruction i) w h = keeps room i w h
+  obey-keeps room (D.Refused r) w h = h
 
-  fetched-keeps : (full : Bool) (f : Fetched) (w : World) → Q (w .registers) → Q ((fetched k full R f w) .world .registers)
+  fetched-keeps : (room : Room) (f : Fetched) (w : World) → Q (w .registers) → Q ((fetched k room R f w) .world .registers)
   unfolding fetched
-  fetched-keeps full (F.Word x) w h = obey-keeps full (decodeIn (R .number) x) w h
-  fetched-keeps full (F.Refused r) w h = h
+  fetched-keeps room (F.Word x) w h = obey-keeps room (decodeIn (R .number) x) w h
+  fetched-keeps room (F.Refused r) w h = h
 
   pub inner-step-keeps : (w : World) (l : Lists) → Q (w .registers) → Q ((stepOf k R w l) .world .registers)
   unfolding stepOf

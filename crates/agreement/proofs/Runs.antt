@@ -18,13 +18,15 @@ use Rattle.words.specs.declared.Decoded.{Decoded}
 use Rattle.words.specs.declared.Decoded.the-variants as D
 use Rattle.execute.specs.World.{World, Stepped}
 use Rattle.execute.specs.Execute.{admits}
-use Rattle.pending.specs.declared.Check.{Check}
-use Rattle.pending.specs.declared.Check.the-variants.{Unneeded, Needed}
 use Rattle.execute.specs.declared.Mode.{Mode}
 use Rattle.execute.specs.declared.Mode.the-variants.{Plain, Deferred}
-use Rattle.pending.specs.Pending.{Lists, listsFit, listing, appended}
-use Rattle.step.specs.Step.{Rules, obey, fetched, Left, left, stepOf}
-use Rattle.run.specs.Run.{Answer, answer, after, goesOn, following, loop, run}
+use Rattle.pending.specs.Pending.{Lists, Check, listsFit, roomAt, listing}
+use Rattle.pending.proofs.Lists.{unlent-stays}
+use Rattle.pending.specs.declared.Room.the-variants.{Unlent}
+use Rattle.execute.specs.Rules.{Rules, obey}
+use Rattle.step.specs.Step.{fetched, Left, left, stepOf}
+use Rattle.step.specs.Leg.{goesOn}
+use Rattle.run.specs.Run.{Answer, answer, after, following, loop, run}
 use Rattle.agreement.specs.Reading.{noMarks, readAll, readWorld, unchecked, readStep, Sized, noLists, readAnswer}
 use Rattle.agreement.specs.Keeping.{Formed}
 use Rattle.agreement.specs.Statements.{RunsAgree, RunsOnValues}
@@ -65,21 +67,20 @@ admits-read k R e =
     (all-from (λ n. not (getD (noMarks (R .accumulated)) n false)) 16 (λ n. rw (no-mark (R .accumulated) n)))
 
 -- ---- one step
-obey-agrees : (k : Mode) (R : Rules) (d : Decoded) (w : World) → Sized (w .registers) → readStep (obey k false R d w) ≡ unchecked (obey Plain false R d (readWorld w))
+obey-agrees : (k : Mode) (R : Rules) (d : Decoded) (w : World) → Sized (w .registers) → readStep (obey k Unlent R d w) ≡ unchecked (obey Plain Unlent R d (readWorld w))
 unfolding obey
 obey-agrees k R (D.Instruction i) w z = instructions-agree k (R .notes) i w z
 obey-agrees k R (D.Refused r) w z = refl
 
-fetched-agrees : (k : Mode) (R : Rules) (f : Fetched) (w : World) → Sized (w .registers) → readStep (fetched k false R f w) ≡ unchecked (fetched Plain false R f (readWorld w))
+fetched-agrees : (k : Mode) (R : Rules) (f : Fetched) (w : World) → Sized (w .registers) → readStep (fetched k Unlent R f w) ≡ unchecked (fetched Plain Unlent R f (readWorld w))
 unfolding fetched
 fetched-agrees k R (F.Word x) w z = obey-agrees k R (decodeIn (R .number) x) w z
 fetched-agrees k R (F.Refused r) w z = refl
 
 -- with no list lent, none is kept
-none-listed : (c : Check) (pc : ℕ) → listing c pc noLists ≡ noLists
-unfolding listing appended
-none-listed Unneeded pc = refl
-none-listed (Needed b v) pc = refl
+none-listed : (cs : List Check) (pc : ℕ) → listing cs pc noLists ≡ noLists
+unfolding roomAt
+none-listed cs pc = unlent-stays cs pc noLists refl
 
 none-left : (k : Mode) (R : Rules) (w : World) → (stepOf k R w noLists) .lists ≡ noLists
 unfolding stepOf

@@ -9,6 +9,7 @@ use Rattle.instruction.specs.declared.Instruction.{Instruction}
 use Rattle.execute.specs.World.{World}
 use Rattle.deferred.specs.Limbs.{sumOf, fits, sumInto}
 use Rattle.execute.specs.Execute.{execute}
+use Rattle.pending.specs.declared.Room.{Room}
 use Rattle.execute.specs.declared.Mode.{Mode}
 use Rattle.agreement.specs.Reading.{Sized}
 use Rattle.agreement.proofs.Cases.{cond-case}
@@ -33,7 +34,7 @@ sized-sum rd x y b R T z u =
     (λ _. sized-put R rd _ b z)
     (λ _. sized-put T rd _ b u)
 
-pub sized-after : (N : Notes) (k : Mode) (full : Bool) (i : Instruction) (w : World) → Sized (w .registers) → Sized ((execute k full N i w) .world .registers)
+pub sized-after : (N : Notes) (k : Mode) (room : Room) (i : Instruction) (w : World) → Sized (w .registers) → Sized ((execute k room N i w) .world .registers)
 sized-after N =
     execute-keeps (λ (S : Registers). Sized S) N sized-normalise
     (λ i v m e R p. sized-put R _ _ _)

@@ -10,6 +10,7 @@ use Rattle.effect.specs.Notes.{Notes}
 use Rattle.execute.specs.World.{World}
 use Rattle.deferred.specs.Limbs.{sumOf, fits, sumInto, subtracted}
 use Rattle.execute.specs.Execute.{execute}
+use Rattle.pending.specs.declared.Room.{Room}
 use Rattle.execute.specs.declared.Mode.{Mode}
 use Rattle.deferred.proofs.Waiting.{fits-true}
 use Rattle.instruction.specs.declared.Instruction.{Instruction}
@@ -35,7 +36,7 @@ module _ (N : Notes) (c : Capped N) where
   unfolding lowOf highOf
   formed-difference rd rs1 rs2 R h = formed-put R rd _ _ (let s = h .small rs1 in omega arith) (c .difference _ _) h
 
-  formed-execute : (k : Mode) (full : Bool) (i : Instruction) (w : World) → Formed (w .registers) → Formed ((execute k full N i w) .world .registers)
+  formed-execute : (k : Mode) (room : Room) (i : Instruction) (w : World) → Formed (w .registers) → Formed ((execute k room N i w) .world .registers)
   formed-execute =
       execute-keeps Formed N formed-normalise
       (λ i v m e R p. formed-whole R _ _ _ (effect-bound N c i v m e p))
@@ -43,7 +44,7 @@ module _ (N : Notes) (c : Capped N) where
       formed-difference
 
 pub formed-after : InstructionsKeep
-formed-after N c k full i w e = well-formed _ (formed-execute N c k full i w (formed (w .registers) e))
+formed-after N c k room i w e = well-formed _ (formed-execute N c k room i w (formed (w .registers) e))
 
 pub formed-after-step : StepsKeep
 formed-after-step R c k = step-keeps (λ S. wellFormed S ≡ true) k R (formed-after (R .notes) c k)

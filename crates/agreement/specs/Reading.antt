@@ -8,7 +8,6 @@ use Rattle.state.specs.Registers.{Registers, registers}
 use Rattle.execute.specs.World.{World, world, worldOf, Stepped, stepped}
 use Rattle.pending.specs.Pending.{Lists, lists}
 use Rattle.run.specs.Run.{Answer, answer}
-use Rattle.pending.specs.declared.Check.the-variants.{Unneeded}
 use Rattle.layout.specs.Layout.{stateIn}
 use Rattle.host.specs.Call.{Called}
 
@@ -29,12 +28,12 @@ readAll R = registers (readValues (R .values) (R .accumulated)) (noMarks (R .acc
 abbrev pub readWorld : World → World
 readWorld w = world (w .pc) (w .halted) (readAll (w .registers)) (w .memory)
 
--- "in a deferred run only Mul" asks for checks: so the check is not compared
+-- "in a deferred run only Mul" asks for checks: so the checks are not compared
 abbrev pub unchecked : Stepped → Stepped
-unchecked s = stepped (s .went) (s .world) Unneeded
+unchecked s = stepped (s .went) (s .world) []
 
 abbrev pub readStep : Stepped → Stepped
-readStep s = stepped (s .went) (readWorld (s .world)) Unneeded
+readStep s = stepped (s .went) (readWorld (s .world)) []
 
 -- a mark for each of the sixteen, as every state has
 abbrev pub Sized : Registers → Type 0

@@ -16,7 +16,10 @@ use Rattle.execute.specs.Execute.{execute, admits}
 use Rattle.execute.specs.declared.Mode.{Mode}
 use Rattle.execute.specs.declared.Mode.the-variants.{Plain, Deferred}
 use Rattle.pending.specs.Pending.{Lists}
-use Rattle.step.specs.Step.{Rules, step}
+use Rattle.pending.specs.declared.Room.{Room}
+use Rattle.pending.specs.declared.Room.the-variants.{Unlent}
+use Rattle.execute.specs.Rules.{Rules}
+use Rattle.step.specs.Step.{step}
 use Rattle.run.specs.Run.{run}
 use Rattle.run.proofs.run_plain
 use Rattle.run.proofs.run_deferred
@@ -44,7 +47,7 @@ RunsOnValues =
 abbrev pub InstructionsAgree : Type 0
 InstructionsAgree =
     (k : Mode) (N : Notes) (i : Instruction) (w : World) → Sized (w .registers)
-    → readStep (execute k false N i w) ≡ unchecked (execute Plain false N i (readWorld w))
+    → readStep (execute k Unlent N i w) ≡ unchecked (execute Plain Unlent N i (readWorld w))
 
 -- Of the code: whatever `run_deferred` and `run_plain` leave, as far as their own contracts allow it, on the same state, bytes of memory and
 -- fuel. `GoodsP` is what the kit knows of any arguments that are handed over: here, that a state has its sixteen marks.
@@ -81,8 +84,8 @@ HostCallsAgree =
 -- After every instruction from a well-formed state the state is well-formed, with a list or without.
 abbrev pub InstructionsKeep : Type 0
 InstructionsKeep =
-    (N : Notes) → Capped N → (k : Mode) (full : Bool) (i : Instruction) (w : World)
-    → wellFormed (w .registers) ≡ true → wellFormed ((execute k full N i w) .world .registers) ≡ true
+    (N : Notes) → Capped N → (k : Mode) (room : Room) (i : Instruction) (w : World)
+    → wellFormed (w .registers) ≡ true → wellFormed ((execute k room N i w) .world .registers) ≡ true
 
 abbrev pub StepsKeep : Type 0
 StepsKeep =

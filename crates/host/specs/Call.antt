@@ -12,7 +12,7 @@ use Rattle.execute.specs.Execute.{admits}
 use Rattle.execute.specs.declared.Mode.{Mode}
 use Rattle.execute.specs.declared.Mode.the-variants.{Plain, Deferred}
 use Rattle.pending.specs.Pending.{Lists, lists}
-use Rattle.step.specs.Step.{documentRules}
+use Rattle.execute.specs.Rules.{documentRules}
 use Rattle.run.specs.Run.{Answer, run}
 use Rattle.layout.specs.Layout.{stateBytes, stateIn, wellLaid, written}
 use Rattle.layout.specs.Answer.{ANSWER_BYTES, answerBytes}

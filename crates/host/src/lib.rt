@@ -1,10 +1,11 @@
 // What the host lends, and its call of the run.
 use execute::Choices;
 use execute::Mode;
+use layout::STATE_BYTES;
 use layout::answer::ANSWER_BYTES;
 use layout::answer::write_answer;
-use layout::laid::well_laid;
-use layout::reading::read_state;
+use layout::reading::Reading;
+use layout::reading::read;
 use layout::writing::write_state;
 use pending::Room;
 use refusal::Stop;
@@ -16,15 +17,17 @@ ghost use mathlib.Core.Path.{_≡_};
 ghost use mathlib.Core.Bool.{_&&_};
 ghost use lib.Dec.{eqb, leb};
 ghost use Rattle.state.specs.Formed.{registersOf};
+ghost use Rattle.execute.specs.World.{worldOf};
 ghost use Rattle.execute.specs.Execute.{admits};
 ghost use Rattle.refusal.specs.Stops.{codeOf, particularAt};
-ghost use Rattle.layout.specs.Layout.{STATE_BYTES, stateBytes, stateIn, wellLaid, written};
+ghost use Rattle.layout.specs.Layout.{STATE_BYTES, stateBytes, written};
 ghost use Rattle.layout.specs.Answer.{ANSWER_BYTES, answerBytes};
 ghost use Rattle.run.specs.Run.{answer};
-ghost use Rattle.execute.specs.World.{worldOf};
-ghost use Rattle.host.specs.Call.{modeOf, none, ranOn, called, served, callOf};
+ghost use Rattle.host.specs.Call.{modeOf, none, called, callOf};
+ghost use Rattle.host.specs.Unlisted.{unlisted};
 
-fn mode_of(n: u64) -> Mode
+// "0 plain or 1 deferred": whoever calls it has refused any other.
+pub fn mode_of(n: u64) -> Mode
     ensures { λ r. ⌜ r ≡ modeOf n ⌝ }
 {
     if n == 0 {
@@ -33,21 +36,26 @@ fn mode_of(n: u64) -> Mode
     Mode::Deferred
 }
 
-fn takes(state: &[u8], s: State, answer: usize, mode: u64) -> bool {
+fn takes(r: Reading, answer: usize, mode: u64) -> bool
+    ensures { λ t. ⌜ t ≡ (eqb answer ANSWER_BYTES && leb mode 1 && r .laid && admits (modeOf mode) (registersOf (r .state))) ⌝ }
+{
     if answer != ANSWER_BYTES {
         return false;
     }
     if 1 < mode {
         return false;
     }
-    if !well_laid(state) {
+    if !r.laid {
         return false;
     }
+    let s = r.state;
     execute::admits(mode_of(mode), &s.regs, &s.accumulated, &s.bounds)
 }
 
-// The run of the mode, with no list lent: one leg.
-fn run_by(choices: Choices, s: State, fuel: u64, m: &mut [u8]) -> Ran {
+// The run of a state that its mode takes, with no list lent: one leg.
+fn run_taken(choices: Choices, s: State, fuel: u64, m: &mut [u8]) -> Ran
+    ensures { λ r. ⌜ answer (r .stop) (r .steps) (worldOf (r .state) (now (m .exit))) none ≡ unlisted choices fuel (worldOf s (now (m .entry))) ⌝ }
+{
     if s.halted {
         return Ran {
             stop: Stop::Ebreak,
@@ -79,6 +87,13 @@ fn leave(state: &mut [u8], answer: &mut [u8], r: Ran) -> u64
     code
 }
 
+fn malformed(answer: &mut [u8]) -> u64
+    ensures { λ c. ⌜ (c ≡ 9) × (now (answer .exit) ≡ written ANSWER_BYTES (answerBytes 9 0 0) (now (answer .entry))) ⌝ }
+{
+    write_answer(answer, 9, 0, 0);
+    9
+}
+
 // The host's call: mode 0 is plain, 1 deferred. It answers the stop's code, and 9 with nothing run where an argument is malformed.
 #[no_mangle]
 pub extern "C" fn zkir_run(
@@ -90,14 +105,18 @@ pub extern "C" fn zkir_run(
 ) -> u64
     ensures { λ r. ⌜ called r (now (state .exit)) (now (memory .exit)) (now (answer .exit)) ≡ callOf (now (state .entry)) (now (memory .entry)) (now (answer .entry)) fuel mode ⌝ }
 {
-    let s = read_state(state);
-    if !takes(state, s, answer.len(), mode) {
-        write_answer(answer, 9, 0, 0);
-        return 9;
+    // tested here too, so that the compiler knows it where the bytes are read
+    if state.len() != STATE_BYTES {
+        return malformed(answer);
+    }
+    let r = read(state);
+    if !takes(r, answer.len(), mode) {
+        return malformed(answer);
     }
     let choices = Choices {
         mode: mode_of(mode),
     };
-    let r = run_by(choices, s, fuel, memory);
-    leave(state, answer, r)
+    let s = r.state;
+    let left = run_taken(choices, s, fuel, memory);
+    leave(state, answer, left)
 }
