@@ -2,6 +2,7 @@
 use Prim.Native.Nat.{ℕ, zero, suc}
 use mathlib.Core.Path.{_≡_, refl, sym, ap, _∙_}
 use mathlib.Core.Bool.{Bool, true, false, cond, not, _&&_}
+use mathlib.Core.List.{List}
 use lib.ListN.{getD}
 use native.Mathlib.Omega.{arith}
 use Rattle.refusal.specs.Stops.{refusalOf}
@@ -90,7 +91,7 @@ abbrev readLeft : Left → Left
 readLeft s = left (s .went) (readWorld (s .world)) (s .lists)
 
 step-agrees : (k : Mode) (R : Rules) (w : World) → Sized (w .registers) → readLeft (stepOf k R w noLists) ≡ stepOf Plain R (readWorld w) noLists
-unfolding stepOf
+unfolding stepOf roomAt
 step-agrees k R w z =
     simp none-listed (ap (λ (s : Stepped). left (s .went) (s .world) noLists) (fetched-agrees k R (fetchOf (w .memory) (w .pc)) w z))
 
