@@ -25,8 +25,8 @@ fn settle_all(mode: Mode, regs: &mut [u64; 16], accumulated: &mut [bool; 16])
     ensures { λ _. ⌜ Becomes (settle mode Ecall) (now (regs .entry)) (now (accumulated .entry)) (now (regs .exit)) (now (accumulated .exit)) ⌝ }
 {
     match mode {
-        Mode::Plain => (),
         Mode::Deferred => registers::normalise_all(regs, accumulated),
+        Mode::Plain => (),
     }
 }
 

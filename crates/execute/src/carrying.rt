@@ -52,7 +52,8 @@ pub(crate) fn onward(start: Start) -> Advance
     to(start, value::address::plus(start.pc, 4))
 }
 
-// The sources of an instruction on whole values; R0 where it has only one.
+// The sources of an instruction on whole values; R0 where it has only one. Of two arms the compiler takes the last one to be the
+// more likely, here and in the limb forms: the plain mode has less else to do.
 pub(crate) fn settle(
     mode: Mode,
     first: u8,
@@ -63,11 +64,11 @@ pub(crate) fn settle(
     ensures { λ _. ⌜ Becomes (settleTwo mode first second) (now (regs .entry)) (now (accumulated .entry)) (now (regs .exit)) (now (accumulated .exit)) ⌝ }
 {
     match mode {
-        Mode::Plain => (),
         Mode::Deferred => {
             registers::normalise(regs, accumulated, first);
             registers::normalise(regs, accumulated, second);
         }
+        Mode::Plain => (),
     }
 }
 

@@ -84,8 +84,8 @@ fn limbs(
     ensures { λ r. ⌜ limbed r (registers (now (regs .exit)) (now (accumulated .exit)) (now (bounds .exit))) ≡ limbsIn mode documentNotes (joinedOf p) (registers (now (regs .entry)) (now (accumulated .entry)) (now (bounds .entry))) ⌝ }
 {
     match mode {
-        Mode::Plain => false,
         Mode::Deferred => deferred::limbs_of_immediate(p, regs, accumulated, bounds),
+        Mode::Plain => false,
     }
 }
 

@@ -8,20 +8,20 @@ use Rattle.execute.proofs.alone.settle_all.Tie as tie
 enum-told : tie.Need-enum-told
 enum-told c = search needs
 
-enum-told-2 : tie.Need-enum-told-2
-enum-told-2 c = search needs
-
 normalise-all-requires : tie.Need-normalise-all-requires
 normalise-all-requires c κs = tt
 
+enum-told-2 : tie.Need-enum-told-2
+enum-told-2 c = search needs
+
 returns : tie.Need-returns
-unfolding settle
-returns c = λ bs. rw (c .enum-told .given .1)
+unfolding settle sources normaliseEach normaliseTo
+returns c = λ bs. rw (c .before .before .before .enum-told .given .1) (c .normalise-all .ensures bs)
 
 returns-2 : tie.Need-returns-2
-unfolding settle sources normaliseEach normaliseTo
-returns-2 c = λ bs. rw (c .before .before .before .enum-told2 .given .1) (c .normalise-all .ensures bs)
+unfolding settle
+returns-2 c = λ bs. rw (c .enum-told2 .given .1)
 
 pub settle-all-spec : {M : Type 1} → statement M
 settle-all-spec =
-    tie.close (tie.spec enum-told enum-told-2 normalise-all-requires returns returns-2)
+    tie.close (tie.spec enum-told normalise-all-requires enum-told-2 returns returns-2)

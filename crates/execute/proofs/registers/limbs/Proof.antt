@@ -6,20 +6,20 @@ use Rattle.execute.proofs.registers.limbs.Tie as tie
 enum-told : tie.Need-enum-told
 enum-told c = search needs
 
-enum-told-2 : tie.Need-enum-told-2
-enum-told-2 c = search needs
-
 limbs-of-registers-requires : tie.Need-limbs-of-registers-requires
 limbs-of-registers-requires c κs = tt
 
+enum-told-2 : tie.Need-enum-told-2
+enum-told-2 c = search needs
+
 returns : tie.Need-returns
 unfolding limbsIn
-returns c = rw (c .enum-told .given .1)
+returns c = rw (c .before .before .before .before .enum-told .given .1) (rw (c .before .before .before .before .before .before .pre) at (c .limbs-of-registers .ensures))
 
 returns-2 : tie.Need-returns-2
 unfolding limbsIn
-returns-2 c = rw (c .before .before .before .before .enum-told2 .given .1) (rw (c .before .before .before .before .before .before .pre) at (c .limbs-of-registers .ensures))
+returns-2 c = rw (c .enum-told2 .given .1)
 
 pub limbs-spec : {M : Type 1} → statement M
 limbs-spec =
-    tie.close (tie.spec enum-told enum-told-2 limbs-of-registers-requires returns returns-2)
+    tie.close (tie.spec enum-told limbs-of-registers-requires enum-told-2 returns returns-2)
