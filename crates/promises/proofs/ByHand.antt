@@ -10,7 +10,8 @@ use Rattle.checked.proofs as checked
 use Rattle.lent.proofs as lent
 use Rattle.execute.specs.World.{worldOf}
 use Rattle.pending.specs.Pending.{Lists, emptied, entryAt}
-use Rattle.step.specs.Step.{Left, left, documentRules, step}
+use Rattle.execute.specs.Rules.{rulesOf}
+use Rattle.step.specs.Step.{Left, left, step}
 use Rattle.run.specs.Run.{Answer, run}
 use Rattle.host.specs.Call.{stateOf}
 use Rattle.checks.specs.Records.{listed, answerTo, withOne}

@@ -14,6 +14,7 @@ use Rattle.state.specs.Held.{valueOf, heldOf, kept, waits}
 use Rattle.state.specs.Registers.{place}
 use Rattle.state.specs.Formed.{limbsFit, isZero, registerFits, zeroFits, allBelow, wellFormed, allWhole}
 use Rattle.normalize.specs.Normalizing.{normalizeAndWrite}
+use Rattle.pending.specs.Pending.{lacks}
 use Rattle.effect.specs.Operations.{divided, result}
 use Rattle.effect.specs.Effects.{seen, dividing, effect}
 use Rattle.execute.specs.World.{done}
@@ -48,5 +49,5 @@ holds (number a b ∷ cs) t = let p = and-yes (eqb a b) (right cs) t in (eqb→e
 holds (integer a b ∷ cs) t = let p = and-yes (sameZ a b) (right cs) t in (sameZ→eq a b (p .0), holds cs (p .1))
 
 pub corners : All paper
-unfolding right signedOf fitsIn immFits partsFit wordOf encodedIn normalizeAndWrite executeOne admits wellFormed zeroFits isZero allBelow registerFits limbsFit allWhole execute finish limbsIn settle done effect seen dividing divided result divOf remOf shl40 signed40 sra40 place kept waits heldOf valueOf
+unfolding right lacks signedOf fitsIn immFits partsFit wordOf encodedIn normalizeAndWrite executeOne admits wellFormed zeroFits isZero allBelow registerFits limbsFit allWhole execute finish limbsIn settle done effect seen dividing divided result divOf remOf shl40 signed40 sra40 place kept waits heldOf valueOf
 corners = holds paper tt

@@ -1,5 +1,6 @@
 -- Each public function, in the order of crates.txt: two outcomes that its own contract allows are one. The name of a law is the function's,
 -- crate·module·function, and `tools/promises` holds this list to the source.
+use mathlib.Core.Path.{refl, ap}
 use mathlib.Core.List.{[]}
 use Rattle.encoding.proofs as encoding
 use Rattle.value.proofs as value
@@ -17,7 +18,6 @@ use Rattle.layout.proofs as layout
 use Rattle.effect.proofs as effect
 use Rattle.deferred.proofs as deferred
 use Rattle.execute.proofs as execute
-use Rattle.obey.proofs as obey
 use Rattle.step.proofs as step
 use Rattle.run.proofs as run
 use Rattle.host.proofs as host
@@ -29,11 +29,15 @@ use Rattle.execute.specs.World.{Stepped}
 use Rattle.pending.specs.Pending.{Lists}
 use Rattle.step.specs.Step.{Left}
 use Rattle.run.specs.Run.{Answer}
-use Rattle.run.specs.Leg.{Leg}
+use Rattle.step.specs.Leg.{Leg}
 use Rattle.host.specs.Call.{Called}
 use Rattle.exports.specs.Machine.{Given}
 use Rattle.promises.specs.Determined.{Determined}
+use Rattle.effect.specs.declared.registers.Deed.{Deed}
+use Rattle.effect.specs.declared.immediate.Turn.{Turn}
 use Rattle.promises.proofs.Laws.{one, two, _&_}
+use Rattle.promises.proofs.Asked.{asked}
+use Rattle.promises.proofs.Tables.{one-deed, one-turn, one-shift}
 use Rattle.promises.proofs.Regrouped.{advanceOf, executedOf, oneStepOf, ranOf, goneOf, LimbsLeft, MachineLeft}
 
 -- ---- encoding
@@ -249,8 +253,11 @@ memory·fetch κs a x y = one (λ r. r & x .1)
 pub pending·lists-fit : Determined pending.lists_fit.ended pending.lists_fit.Reads.Learnt
 pending·lists-fit κs a x y = one (λ r. r & x .1)
 
-pub pending·full-at : Determined pending.full_at.ended pending.full_at.Reads.Learnt
-pending·full-at κs a x y = one (λ r. r & x .1)
+pub pending·room-at : Determined pending.room_at.ended pending.room_at.Reads.Learnt
+pending·room-at κs a x y = one (λ r. r & x .1)
+
+pub pending·lacks : Determined pending.lacks.ended pending.lacks.Reads.Learnt
+pending·lacks κs a x y = one (λ r. r & x .1)
 
 pub pending·list : Determined pending.list.ended pending.list.Reads.Learnt
 pending·list κs a x y = one (λ (l : Lists). l .count & l .values & l .bounds & l .pcs & x .1 .1 .1 .1)
@@ -267,6 +274,9 @@ pending·read κs a x y = one (λ r. r & x .1)
 -- ---- opcode
 pub opcode·number : Determined opcode.number.ended opcode.number.Reads.Learnt
 opcode·number κs a x y = one (λ r. r & x .1)
+
+pub opcode·same : Determined opcode.same.ended opcode.same.Reads.Learnt
+opcode·same κs a x y = one (λ r. r & x .1)
 
 pub opcode·opcode-of : Determined opcode.opcode_of.ended opcode.opcode_of.Reads.Learnt
 opcode·opcode-of κs a x y = one (λ r. r & x .1)
@@ -310,6 +320,9 @@ state·formed·well-formed κs a x y = one (λ r. r & x .1)
 
 pub state·formed·all-whole : Determined state.formed.all_whole.ended state.formed.all_whole.Reads.Learnt
 state·formed·all-whole κs a x y = one (λ r. r & x .1)
+
+pub state·together : Determined state.together.ended state.together.Reads.Learnt
+state·together κs a x y = one (λ r. r & x .1)
 
 pub state·fresh : Determined state.fresh.ended state.fresh.Reads.Learnt
 state·fresh κs a x y = one (λ r. r & x .1)
@@ -380,19 +393,22 @@ pub layout·laid·is-admissible : Determined layout.laid.is_admissible.ended lay
 layout·laid·is-admissible κs a x y = one (λ r. r & x .1)
 
 -- ---- effect
-pub effect·effect-of : Determined effect.effect_of.ended effect.effect_of.Reads.Learnt
-effect·effect-of κs a x y = one (λ r. r & x .1)
+pub effect·branch·taken : Determined effect.branch.taken.ended effect.branch.taken.Reads.Learnt
+effect·branch·taken κs a x y = one (λ r. r & x .1)
 
-pub effect·effect-of-parts : Determined effect.effect_of_parts.ended effect.effect_of_parts.Reads.Learnt
-effect·effect-of-parts κs a x y = one (λ r. r & x .1)
+pub effect·immediate·decide : Determined effect.immediate.decide.ended effect.immediate.decide.Reads.Learnt
+effect·immediate·decide κs a x y = λ p q. ap (λ (r : Turn). r & x .1) (one-turn _ _ _ _ _ p q)
+
+pub effect·immediate·shift : Determined effect.immediate.shift.ended effect.immediate.shift.Reads.Learnt
+effect·immediate·shift κs a x y = λ p q. ap (λ (r : Turn). r & x .1) (one-shift _ _ _ _ p q)
+
+pub effect·registers·decide : Determined effect.registers.decide.ended effect.registers.decide.Reads.Learnt
+effect·registers·decide κs a x y = λ p q. ap (λ (r : Deed). r & x .1) (one-deed _ _ _ _ p q)
+
+pub effect·store·size-of : Determined effect.store.size_of.ended effect.store.size_of.Reads.Learnt
+effect·store·size-of κs a x y = one (λ r. r & x .1)
 
 -- ---- deferred
-pub deferred·sources·settle : Determined deferred.sources.settle.ended deferred.sources.settle.Reads.Learnt
-deferred·sources·settle κs a x y = λ p q. one (λ (R : Registers). tt & tt & R .values & R .accumulated & tt) (p []) (q [])
-
-pub deferred·limbs : Determined deferred.limbs.ended deferred.limbs.Reads.Learnt
-deferred·limbs κs a x y = one (λ (l : Limbed). l .waits & tt & l .registers .values & l .registers .accumulated & l .registers .bounds & tt)
-
 pub deferred·limbs-of-registers : Determined deferred.limbs_of_registers.ended deferred.limbs_of_registers.Reads.Learnt
 deferred·limbs-of-registers κs a x y = one (λ (l : Limbed). l .waits & tt & l .registers .values & l .registers .accumulated & l .registers .bounds & tt)
 
@@ -400,28 +416,33 @@ pub deferred·limbs-of-immediate : Determined deferred.limbs_of_immediate.ended 
 deferred·limbs-of-immediate κs a x y = one (λ (l : Limbed). l .waits & tt & l .registers .values & l .registers .accumulated & l .registers .bounds & tt)
 
 -- ---- execute
-pub execute·lent·execute : Determined execute.lent.execute.ended execute.lent.execute.Reads.Learnt
-execute·lent·execute κs a x y = one (λ (s : Stepped). let R = s .world .registers in advanceOf s & tt & tt & tt & tt & tt & R .values & R .accumulated & R .bounds & s .world .memory & tt)
+pub execute·refuse : Determined execute.refuse.ended execute.refuse.Reads.Learnt
+execute·refuse κs a x y = one (λ r. r & x .1)
 
 pub execute·admits : Determined execute.admits.ended execute.admits.Reads.Learnt
 execute·admits κs a x y = one (λ r. r & x .1)
 
 pub execute·execute : Determined execute.execute.ended execute.execute.Reads.Learnt
-execute·execute κs a x y = one (λ (s : Stepped). executedOf s & tt & tt & tt & s .world .memory & tt)
+execute·execute κs a x y = asked (λ (s : Stepped). s .checks) (x .0 .checks) (y .0 .checks) (λ (s : Stepped) k. executedOf s k & tt & tt & tt & s .world .memory & tt) refl refl
 
--- ---- obey
-pub obey·by-form·obey : Determined obey.by_form.obey.ended obey.by_form.obey.Reads.Learnt
-obey·by-form·obey κs a x y = one (λ (s : Stepped). let R = s .world .registers in advanceOf s & tt & tt & tt & tt & tt & tt & R .values & R .accumulated & R .bounds & s .world .memory & tt)
+pub execute·word·obey : Determined execute.word.obey.ended execute.word.obey.Reads.Learnt
+execute·word·obey κs a x y =
+    asked (λ (s : Stepped). s .checks) (x .0 .checks) (y .0 .checks)
+    (λ (s : Stepped) k. let R = s .world .registers in advanceOf s k & tt & tt & R .values & R .accumulated & R .bounds & s .world .memory & tt)
+    refl refl
 
 -- ---- step
-pub step·step-in : Determined step.step_in.ended step.step_in.Reads.Learnt
-step·step-in κs a x y = one (λ (s : Stepped). let R = s .world .registers in advanceOf s & tt & tt & tt & tt & R .values & R .accumulated & R .bounds & s .world .memory & tt)
-
 pub step·takes : Determined step.takes.ended step.takes.Reads.Learnt
 step·takes κs a x y = one (λ r. r & x .1)
 
 pub step·step : Determined step.step.ended step.step.Reads.Learnt
 step·step κs a x y = one (λ (l : Left). oneStepOf l & tt & tt & l .world .memory & l .lists .values & l .lists .bounds & l .lists .pcs & tt & tt)
+
+pub step·leg·goes-on : Determined step.leg.goes_on.ended step.leg.goes_on.Reads.Learnt
+step·leg·goes-on κs a x y = one (λ r. r & x .1)
+
+pub step·leg·advance : Determined step.leg.advance.ended step.leg.advance.Reads.Learnt
+step·leg·advance κs a x y = asked (λ (l : Leg). l .checks) (x .0 .checks) (y .0 .checks) (λ (l : Leg) k. goneOf l k & tt & tt & tt & tt & l .world .memory & tt) refl refl
 
 -- ---- run
 pub run·run-plain : Determined run.run_plain.ended run.run_plain.Reads.Learnt
@@ -430,16 +451,19 @@ run·run-plain κs a x y = one (λ (r : Answer). ranOf r & tt & tt & r .world .m
 pub run·run-deferred : Determined run.run_deferred.ended run.run_deferred.Reads.Learnt
 run·run-deferred κs a x y = one (λ (r : Answer). ranOf r & tt & tt & r .world .memory & r .lists .values & r .lists .bounds & r .lists .pcs & tt & tt)
 
-pub run·goes-on : Determined run.goes_on.ended run.goes_on.Reads.Learnt
-run·goes-on κs a x y = one (λ r. r & x .1)
+pub run·legs·stop-of : Determined run.legs.stop_of.ended run.legs.stop_of.Reads.Learnt
+run·legs·stop-of κs a x y = one (λ r. r & x .1)
 
-pub run·stop-of : Determined run.stop_of.ended run.stop_of.Reads.Learnt
-run·stop-of κs a x y = one (λ r. r & x .1)
+pub run·legs·begin : Determined run.legs.begin.ended run.legs.begin.Reads.Learnt
+run·legs·begin κs a x y = one (λ r. r & x .1)
 
-pub run·leg·advance : Determined run.leg.advance.ended run.leg.advance.Reads.Learnt
-run·leg·advance κs a x y = one (λ (l : Leg). goneOf l & tt & tt & tt & tt & l .world .memory & tt)
+pub run·legs·after : Determined run.legs.after.ended run.legs.after.Reads.Learnt
+run·legs·after κs a x y = one (λ r. r & x .1)
 
 -- ---- host
+pub host·mode-of : Determined host.mode_of.ended host.mode_of.Reads.Learnt
+host·mode-of κs a x y = one (λ r. r & x .1)
+
 pub host·zkir-run : Determined host.zkir_run.ended host.zkir_run.Reads.Learnt
 host·zkir-run κs a x y = one (λ (c : Called). c .code & c .state & c .memory & c .answer & x .1 .1 .1 .1)
 
