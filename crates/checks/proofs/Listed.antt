@@ -12,7 +12,7 @@ use lib.ListN.{length, set, getD, drop, length-map, List·getD-map}
 use native.Mathlib.Omega.{arith}
 use lib.Seq.{set-out}
 use borrow.Author.Tests.{lt-ltb, le-ltb, eq-eqb, le-leb, lt-leb, ltb-true, ltb-false, leb-true, leb-false}
-use Rattle.pending.specs.Pending.{Lists, lists, listsFit, full, fullAt, appended, entryAt}
+use Rattle.pending.specs.Pending.{Lists, lists, listsFit, roomAt, roomOf, appended, entryAt}
 use Rattle.pending.specs.declared.Entry.the-variants as E
 use Rattle.pending.proofs.Lists.{entry-malformed, entry-beyond, entry-there}
 use Rattle.checks.specs.Records.{listed}
@@ -33,7 +33,7 @@ map-set f (x ∷ xs) (suc n) a = ap (λ r. f x ∷ r) (map-set f xs n a)
 pub fits-is : (n : ℕ) (l : List Pending) → listsFit (listed n l) ≡ leb n (length l)
 fits-is n l = simp (length-map l (λ (p : Pending). p .value), length-map l (λ (p : Pending). p .bound), length-map l (λ (p : Pending). p .pc), eq-eqb (length l) (length l) refl)
 
-pub room-is : (n : ℕ) (l : List Pending) → full (listed n l) ≡ fullAt (length l) n
+pub room-is : (n : ℕ) (l : List Pending) → roomOf (listed n l) ≡ roomAt (length l) n
 room-is n l = rw (length-map l (λ (p : Pending). p .value))
 
 module _ (n : ℕ) (l : List Pending) (p : Pending) where

@@ -1,27 +1,34 @@
 -- Where one more check is listed, from the tests that `place_for` makes.
-use Prim.Native.Nat.{ℕ, _+_, _<_, _≤_}
+use Prim.Native.Nat.{ℕ, _+_, _-_, _<_, _≤_}
 use mathlib.Core.Path.{_≡_, refl, sym, _∙_}
-use mathlib.Core.Bool.{Bool, true, false, not, _&&_}
-use lib.Dec.{eqb}
+use mathlib.Core.Bool.{true, false}
 use mathlib.Core.List.{List}
 use lib.ListN.{length, set}
 use lib.Seq.{set-out}
 use native.Mathlib.Omega.{arith}
-use borrow.Author.Tests.{le-leb, lt-leb, eq-eqb, ne-eqb}
+use borrow.Author.Tests.{le-leb, lt-leb, lt-ltb, le-ltb}
 use Rattle.refusal.specs.Stops.{refusalOf}
-use Rattle.pending.specs.Pending.{listsFit, full}
+use Rattle.pending.specs.Pending.{listsFit, roomOf, lacks}
 use Rattle.pending.specs.declared.Appended.the-variants as A
-use Rattle.pending.proofs.Lists.{append-malformed, append-full, append-done}
-use Rattle.checks.specs.Records.{listed, withOne, Fits}
+use Rattle.pending.proofs.Lists.{no-list, room-left, append-malformed, append-full, append-done}
+use Rattle.checks.specs.Records.{listed, withOne}
+use Rattle.checks.specs.Places.{Fits}
 use Rattle.checks.specs.declared.Pending.{Pending}
 use Rattle.checks.proofs.Listed.{fits-is, room-is, listed-more, listed-same}
 
-with-room : (n : ℕ) (l : List Pending) → n < length l → full (listed n l) ≡ false
-with-room n l h = room-is n l ∙ rw (lt-leb (length l) n h) (neither (eqb (length l) 0))
-  where
-    neither : (t : Bool) → (not t && false) ≡ false
-    neither true = refl
-    neither false = refl
+-- whether one more check fits
+module _ (n : ℕ) (l : List Pending) where
+  unlent : length l ≡ 0 → lacks (roomOf (listed n l)) 1 ≡ false
+  unfolding lacks
+  unlent h = rw (room-is n l, ← no-list (length l) n h)
+
+  with-room : n < length l → lacks (roomOf (listed n l)) 1 ≡ false
+  unfolding lacks
+  with-room h = rw (room-is n l, ← room-left (length l) n (length l - n) (omega arith) refl) (le-ltb (length l - n) 1 (omega arith))
+
+  without : 0 < length l → length l ≤ n → lacks (roomOf (listed n l)) 1 ≡ true
+  unfolding lacks
+  without h g = rw (room-is n l, ← room-left (length l) n (length l - n) h refl) (lt-ltb (length l - n) 1 (omega arith))
 
 module _ (room n : ℕ) (p : Pending) (l : List Pending) (e : length l ≡ room) where
   fits : n ≤ room → listsFit (listed n l) ≡ true
@@ -49,10 +56,10 @@ module _ (room n : ℕ) (p : Pending) where
   pub place-none : room ≡ 0 → n ≤ room → Fits room n p (record { answer = A.At n; place = room })
   place-none z h l e =
       let same = listed-same n l p (omega arith) in
-      let m = append-done (p .value) (p .bound) (p .pc) (listed n l) (fits room n p l e h) (room-is n l ∙ rw (eq-eqb (length l) 0 (omega arith))) in
+      let m = append-done (p .value) (p .bound) (p .pc) (listed n l) (fits room n p l e h) (unlent n l (omega arith)) in
       (rw (← m .0, ← same), stays room n p l e (m .1 ∙ sym same))
 
-  pub place-full : (room ≡ 0 → ⊥) → n ≤ room → room ≤ n → Fits room n p (record { answer = A.Refused (refusalOf 8 (p .pc)); place = room })
+  pub place-full : 0 < room → n ≤ room → room ≤ n → Fits room n p (record { answer = A.Refused (refusalOf 8 (p .pc)); place = room })
   place-full z h g l e =
-      let m = append-full (p .value) (p .bound) (p .pc) (listed n l) (fits room n p l e h) (room-is n l ∙ rw (ne-eqb (length l) 0 (λ y. z (sym e ∙ y)), le-leb (length l) n (omega arith))) in
+      let m = append-full (p .value) (p .bound) (p .pc) (listed n l) (fits room n p l e h) (without n l (omega arith) (omega arith)) in
       (m .0, stays room n p l e (m .1))

@@ -1,12 +1,9 @@
--- Pending checks as one lent list of records: what the three lists hold of them. Every promise of this crate is one of `run`'s, through `listed`.
+-- Pending checks as one lent list of records: what the three lists hold of them. Every promise of this crate is one of `pending`'s, through `listed`.
 use Prim.Native.Nat.{ℕ}
-use mathlib.Core.Path.{_≡_}
 use mathlib.Core.List.{List, map}
-use lib.ListN.{length, set}
 use Rattle.pending.specs.Pending.{Lists, lists, appendAnswer, appendLists}
 use Rattle.pending.specs.declared.Appended.{Appended}
 use Rattle.checks.specs.declared.Pending.{Pending}
-use Rattle.checks.specs.declared.Placed.{Placed}
 
 -- "one lent list of records": the values, bounds and pcs of the records, each a list by itself
 abbrev pub listed : ℕ → List Pending → Lists
@@ -17,7 +14,3 @@ answerTo p n l = appendAnswer (p .value) (p .bound) (p .pc) (listed n l)
 
 abbrev pub withOne : Pending → ℕ → List Pending → Lists
 withOne p n l = appendLists (p .value) (p .bound) (p .pc) (listed n l)
-
--- the answer and the place that `place_for` gives: they hold of every list of this room
-abbrev pub Fits : ℕ → ℕ → Pending → Placed → Type 0
-Fits room n p r = (l : List Pending) → length l ≡ room → (r .answer ≡ answerTo p n l) × (listed ((withOne p n l) .count) (set l (r .place) p) ≡ withOne p n l)

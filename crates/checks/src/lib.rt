@@ -7,7 +7,8 @@ ghost use mathlib.Core.Bool.{_||_};
 ghost use lib.Dec.{leb, ltb};
 ghost use lib.ListN.{set};
 ghost use Rattle.pending.specs.Pending.{emptied, entryAt};
-ghost use Rattle.checks.specs.Records.{listed, answerTo, withOne, Fits};
+ghost use Rattle.checks.specs.Records.{listed, answerTo, withOne};
+ghost use Rattle.checks.specs.Places.{Fits};
 
 #[repr(C)]
 pub struct Pending {

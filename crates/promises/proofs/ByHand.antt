@@ -9,8 +9,8 @@ use Rattle.checks.proofs as checks
 use Rattle.checked.proofs as checked
 use Rattle.lent.proofs as lent
 use Rattle.execute.specs.World.{worldOf}
-use Rattle.pending.specs.Pending.{Lists, emptied, entryAt}
 use Rattle.execute.specs.Rules.{rulesOf}
+use Rattle.pending.specs.Pending.{Lists, emptied, entryAt}
 use Rattle.step.specs.Step.{Left, left, step}
 use Rattle.run.specs.Run.{Answer, run}
 use Rattle.host.specs.Call.{stateOf}
@@ -65,7 +65,7 @@ checks·note-at = (λ M 𝓤 H A m run κs a g r e. refl, λ κs a x y. one (λ 
 abbrev steps : Telling checked.step.ended
 steps κs a r e =
     steppedOver r (now (e .1 .1 .0)) (now (e .1 .1 .1 .0))
-    ≡ step (a .0) documentRules (worldOf (a .1 .0) (now (a .1 .1 .0))) (listed (a .1 .1 .1 .1 .0) (now (a .1 .1 .1 .0)))
+    ≡ step (a .0 .mode) (rulesOf (a .0)) (worldOf (a .1 .0) (now (a .1 .1 .0))) (listed (a .1 .1 .1 .1 .0) (now (a .1 .1 .1 .0)))
 
 pub checked·step : ByHand checked.step.ended (λ M 𝓤. checked.step.clauses {M = M} 𝓤) steps
 checked·step = (
@@ -76,7 +76,7 @@ checked·step = (
 abbrev runs : Telling checked.run.ended
 runs κs a r e =
     ranOver r (now (e .1 .1 .1 .0)) (now (e .1 .1 .1 .1 .0))
-    ≡ run (a .0) documentRules (a .1 .1 .0) (worldOf (a .1 .0) (now (a .1 .1 .1 .0))) (listed (a .1 .1 .1 .1 .1 .0) (now (a .1 .1 .1 .1 .0)))
+    ≡ run (a .0 .mode) (rulesOf (a .0)) (a .1 .1 .0) (worldOf (a .1 .0) (now (a .1 .1 .1 .0))) (listed (a .1 .1 .1 .1 .1 .0) (now (a .1 .1 .1 .1 .0)))
 
 pub checked·run : ByHand checked.run.ended (λ M 𝓤. checked.run.clauses {M = M} 𝓤) runs
 checked·run = (
@@ -88,7 +88,7 @@ checked·run = (
 abbrev stepsInPlace : Telling lent.step_in_place.ended
 stepsInPlace κs a r e =
     left (r .went) (worldOf (now (e .0)) (now (e .1 .1 .0))) (listed (r .count) (now (e .1 .1 .1 .0)))
-    ≡ step (a .1 .0) documentRules (worldOf (now (a .0)) (now (a .1 .1 .0))) (listed (a .1 .1 .1 .1 .0) (now (a .1 .1 .1 .0)))
+    ≡ step (a .1 .0 .mode) (rulesOf (a .1 .0)) (worldOf (now (a .0)) (now (a .1 .1 .0))) (listed (a .1 .1 .1 .1 .0) (now (a .1 .1 .1 .0)))
 
 pub lent·step-in-place : ByHand lent.step_in_place.ended (λ M 𝓤. lent.step_in_place.clauses {M = M} 𝓤) stepsInPlace
 lent·step-in-place = (

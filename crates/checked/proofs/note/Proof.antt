@@ -1,4 +1,4 @@
-use Rattle.checked.proofs.Turning.{note-unneeded, note-full, note-room}
+use Rattle.checked.proofs.Turning.{note-nothing, note-full, note-room}
 use borrow.Author.Needs.{needs}
 use Rattle.checked.proofs.note.Statement.{statement}
 use Rattle.checked.proofs.note.Tie as tie
@@ -7,25 +7,25 @@ enum-told : tie.Need-enum-told
 enum-told c = search needs
 
 unnoted-requires : tie.Need-unnoted-requires
-unnoted-requires c κs = search needs
+unnoted-requires c κs = tt
 
-enum-known-check : tie.Need-enum-known-check
-enum-known-check c = search needs
+enum-known-checks : tie.Need-enum-known-checks
+enum-known-checks c = search needs
 
 unnoted-requires-2 : tie.Need-unnoted-requires-2
-unnoted-requires-2 c κs = search needs
+unnoted-requires-2 c κs = tt
 
 returns : tie.Need-returns
-returns c = rw (c .unnoted2 .ensures, c .before .before .before .check .given .1) (note-full _ _ _ _ _ (c .before .if1 .taken))
+returns c = rw (c .unnoted2 .ensures, c .before .before .before .checks .given .1) (note-full _ _ _ _ _ (c .before .if1 .taken))
 
 add-t9 : tie.Need-add-t9
 add-t9 c = search needs
 
 returns-2 : tie.Need-returns-2
-returns-2 c = rw (c .unnoted .ensures, c .before .enum-told .given .1) (note-unneeded _ _ _)
+returns-2 c = rw (c .unnoted .ensures, c .before .enum-told .given .1) (note-nothing _ _ _)
 
 returns-3 : tie.Need-returns-3
-returns-3 c = rw (c .before .before .check .given .1) (note-room _ _ _ _ _ (c .if1 .left))
+returns-3 c = rw (c .before .before .checks .given .1) (note-room _ _ _ _ _ (c .if1 .left))
 
 pub note-spec : {M : Type 1} → statement M
 note-spec =
@@ -33,7 +33,7 @@ note-spec =
     (tie.spec
     enum-told
     unnoted-requires
-    enum-known-check
+    enum-known-checks
     unnoted-requires-2
     returns
     add-t9

@@ -1,9 +1,8 @@
-use borrow.Author.Needs.{needs}
 use Rattle.checked.proofs.unnoted.Statement.{statement}
 use Rattle.checked.proofs.unnoted.Tie as tie
 
 nothing-requires : tie.Need-nothing-requires
-nothing-requires c κs = search needs
+nothing-requires c κs = tt
 
 returns : tie.Need-returns
 returns c = rw (c .nothing .ensures)

@@ -3,7 +3,7 @@
 use Rattle.walks.proofs.Walk.{ !, Atoms, Calls, Contract, FmC, Fun, GName, Given, Heap, Is, Lft, List, Loops, Meets, Memory, MutSlice, RefT, Room, Routine, SProp, Share, Stays, Tables, Triple, URA, Val, Walks, WpFn, WpFn-mono, [], _$_, _<_, _^_, _∵_, _∷_, _≡_, _⊛_, addr, agg, alloc0, alloc1, and-then, ap, assigns, await, by, calls-at, cited, done, drop, emp, ends-at, ensured, ent, enter, entered, fact, fat, feqL, finally, fjoin, fld, flft, fmOf, forget, frame, free0, free1, from, fsplit, fst∗, ftrue, fullShare, gave-slice, givenOf, goes-gave-slice, goes-none, heard, hop, id⊢, init, join, keep, land, lasts, later, length, load, look, look-in, mem, move, mut-slice-tells, named, no-more, nothing, nothing-lawful, of-opd, onEntry, only, owned, owns, params1, pass0, pass1, peeks, pick, plain, qed, raw, refl, returns, rewrite, says, set, shows, slice-vals, sliceVal, some, split, stay-none, stop, sub, suffices, tables, tablesOf, tripleOf, uint-makes, uint-tells, uint-vals, unit, use0, use1, use2, usize, via, vint, w64, walk-meets, walkOf, walked, whole, yes, ‵, ℕ, ⋆}
 use denote.Struct.Laws as LL
 use denote.Enum.Laws as EL
-use Rattle.checks.specs.Records.{Fits}
+use Rattle.checks.specs.Places.{Fits}
 use Rattle.checks.specs.declared.Pending.{Pending}
 use Rattle.checks.specs.declared.Placed.{Placed}
 use Rattle.checks.proofs.Noting.{valsP, Note, to-note, goes-note}

@@ -17,7 +17,7 @@ returns-3 : tie.Need-returns-3
 returns-3 c = place-none _ _ _ (c .if3 .taken) (omega arith)
 
 returns-4 : tie.Need-returns-4
-returns-4 c = place-full _ _ _ (c .if3 .left) (omega arith) (omega arith)
+returns-4 c = place-full _ _ _ (omega arith) (omega arith) (omega arith)
 
 pub place-for-spec : {M : Type 1} → statement M
 place-for-spec = tie.close (tie.spec returns add-t7 returns-2 returns-3 returns-4)
