@@ -1,51 +1,62 @@
 -- What a call leaves, from what the calls inside it leave: over plain variables, so that nothing of a run is computed.
 use Prim.Native.Nat.{ℕ}
-use mathlib.Core.Path.{_≡_, ap, _∙_}
-use mathlib.Core.List.{List}
-use borrow.Author.Tests.{eq-eqb, ne-eqb}
+use mathlib.Core.Path.{_≡_}
+use mathlib.Core.Bool.{true, false}
+use mathlib.Core.List.{List, []}
+use Rattle.refusal.specs.Stops.{refusalOf}
+use Rattle.refusal.specs.declared.Stop.the-variants as S
 use Rattle.state.specs.declared.State.{State}
 use Rattle.effect.specs.Notes.{documentNotes}
-use Rattle.execute.specs.World.{World, worldOf, Stepped}
+use Rattle.execute.specs.World.{worldOf, Stepped}
 use Rattle.execute.specs.Execute.{executeOne}
+use Rattle.execute.specs.Rules.{documentRules}
 use Rattle.execute.specs.declared.Mode.{Mode}
-use Rattle.execute.specs.declared.Mode.the-variants.{Plain, Deferred}
 use Rattle.instruction.specs.declared.Instruction.{Instruction}
 use Rattle.pending.specs.Pending.{Lists}
-use Rattle.step.specs.Step.{documentRules, Left, step}
+use Rattle.step.specs.Step.{Left, step}
 use Rattle.run.specs.Run.{Answer, run}
 use Rattle.layout.specs.Layout.{STATE_BYTES, stateBytes, stateIn, written}
 use Rattle.layout.specs.Answer.{ANSWER_BYTES}
 use Rattle.host.specs.Call.{modeOf, stateOf}
-use Rattle.exports.specs.Machine.{wentBytes, stopBytes, checkBytes, given, executedIn, lent, steppedIn, ranIn}
+use Rattle.exports.specs.declared.triple.Triple.{Triple}
+use Rattle.exports.specs.Triples.{tripled, refusalTriple}
+use Rattle.exports.specs.Machine.{legible, wentTriple, checkTriple, stopBytes, given, executing, lent, stepping, running}
 
-pub plain-mode : (n : ℕ) → n ≡ 0 → modeOf n ≡ Plain
-unfolding modeOf
-plain-mode n e = rw (eq-eqb n 0 e)
+module _ (st m an an′ : List ℕ) (mode : ℕ) where
+  module _ (ck ck′ : List ℕ) (j : Instruction) (u : Triple) where
+    pub execute-refused : (t : Triple) → legible st mode ≡ false → t ≡ refusalTriple (refusalOf 9 0) → an′ ≡ tripled t an
+        → u ≡ checkTriple [] → ck′ ≡ tripled u ck → given st m an′ ck′ ≡ executing mode j (given st m an ck)
+    unfolding executing
+    execute-refused t b e f g h = rw (b, f, e, h, g)
 
-pub deferred-mode : (n : ℕ) → (n ≡ 0 → ⊥) → modeOf n ≡ Deferred
-unfolding modeOf
-deferred-mode n e = rw (ne-eqb n 0 e)
+    pub execute-left : (k : Mode) (s : State) (i : Instruction) (r : Stepped) (st′ : List ℕ) → legible st mode ≡ true
+        → k ≡ modeOf mode → s ≡ stateIn st → i ≡ j → r ≡ executeOne k documentNotes i (worldOf s m)
+        → st′ ≡ written STATE_BYTES (stateBytes (stateOf (r .world))) st → an′ ≡ tripled (wentTriple (r .went)) an
+        → u ≡ checkTriple (r .checks) → ck′ ≡ tripled u ck
+        → given st′ (r .world .memory) an′ ck′ ≡ executing mode j (given st m an ck)
+    unfolding executing
+    execute-left k s i r st′ b e f g h p q t v = rw (b, ← e, ← f, ← g, ← h, p, q, v, t)
 
-pub run-in : (k j : Mode) (fuel : ℕ) (w : World) (l : Lists) (a : Answer) → j ≡ k → a ≡ run k documentRules fuel w l
-    → a ≡ run j documentRules fuel w l
-run-in k j fuel w l a e h = rw (e, h)
+  module _ (l : Lists) where
+    pub step-refused : (t : Triple) → legible st mode ≡ false → t ≡ refusalTriple (refusalOf 9 0) → an′ ≡ tripled t an
+        → lent st m an′ l ≡ stepping mode (lent st m an l)
+    unfolding stepping
+    step-refused t b e f = rw (b, f, e)
 
-module _ (st m an : List ℕ) (mode : ℕ) (s : State) where
-  module _ (ck : List ℕ) (i j : Instruction) (k : Mode) (r : Stepped) (st′ an′ ck′ : List ℕ) where
-    pub execute-left : k ≡ modeOf mode → s ≡ stateIn st → i ≡ j → r ≡ executeOne k documentNotes i (worldOf s m)
-        → st′ ≡ written STATE_BYTES (stateBytes (stateOf (r .world))) st → an′ ≡ written ANSWER_BYTES (wentBytes (r .went)) an
-        → ck′ ≡ written ANSWER_BYTES (checkBytes (r .check)) ck
-        → given st′ (r .world .memory) an′ ck′ ≡ executedIn (executeOne (modeOf mode) documentNotes j (worldOf (stateIn st) m)) (given st m an ck)
-    execute-left e f g h p q t = rw (← e, ← f, ← g, ← h, p, q, t)
+    pub step-left : (k : Mode) (s : State) (r : Left) (st′ : List ℕ) → legible st mode ≡ true → k ≡ modeOf mode → s ≡ stateIn st
+        → r ≡ step k documentRules (worldOf s m) l → st′ ≡ written STATE_BYTES (stateBytes (stateOf (r .world))) st
+        → an′ ≡ tripled (wentTriple (r .went)) an → lent st′ (r .world .memory) an′ (r .lists) ≡ stepping mode (lent st m an l)
+    unfolding stepping
+    step-left k s r st′ b e f h p q = rw (b, ← e, ← f, ← h, p, q)
 
-  module _ (l : Lists) (st′ an′ : List ℕ) where
-    pub step-left : (k : Mode) (r : Left) → k ≡ modeOf mode → s ≡ stateIn st → r ≡ step k documentRules (worldOf s m) l
-        → st′ ≡ written STATE_BYTES (stateBytes (stateOf (r .world))) st → an′ ≡ written ANSWER_BYTES (wentBytes (r .went)) an
-        → lent st′ (r .world .memory) an′ (r .lists) ≡ steppedIn (step (modeOf mode) documentRules (worldOf (stateIn st) m) l) (lent st m an l)
-    step-left k r e f h p q = rw (← e, ← f, ← h, p, q)
+    pub run-refused : (fuel : ℕ) → legible st mode ≡ false → an′ ≡ written ANSWER_BYTES (stopBytes (S.Refused (refusalOf 9 0)) 0) an
+        → lent st m an′ l ≡ running mode fuel (lent st m an l)
+    unfolding running
+    run-refused fuel b f = rw (b, f)
 
-    pub run-left : (fuel : ℕ) (a : Answer) → s ≡ stateIn st → a ≡ run (modeOf mode) documentRules fuel (worldOf s m) l
-        → st′ ≡ written STATE_BYTES (stateBytes (stateOf (a .world))) st
+    pub run-left : (fuel : ℕ) (k : Mode) (s : State) (a : Answer) (st′ : List ℕ) → legible st mode ≡ true → k ≡ modeOf mode
+        → s ≡ stateIn st → a ≡ run k documentRules fuel (worldOf s m) l → st′ ≡ written STATE_BYTES (stateBytes (stateOf (a .world))) st
         → an′ ≡ written ANSWER_BYTES (stopBytes (a .stop) (a .steps)) an
-        → lent st′ (a .world .memory) an′ (a .lists) ≡ ranIn (run (modeOf mode) documentRules fuel (worldOf (stateIn st) m) l) (lent st m an l)
-    run-left fuel a f h p q = rw (← f, ← h, p, q)
+        → lent st′ (a .world .memory) an′ (a .lists) ≡ running mode fuel (lent st m an l)
+    unfolding running
+    run-left fuel k s a st′ b e f h p q = rw (b, ← e, ← f, ← h, p, q)

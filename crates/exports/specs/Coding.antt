@@ -1,7 +1,6 @@
 -- Decoder and encoder, over numbers alone.
 use Prim.Native.Nat.{ℕ, _+_, _-_, _*_, _^_}
-use mathlib.Core.List.{List}
-use Rattle.refusal.specs.Stops.{numberOf, particularOf}
+use Rattle.refusal.specs.Stops.{numberOf}
 use Rattle.opcode.specs.Opcodes.{opcodeNumber}
 use Rattle.opcode.specs.declared.Opcode.the-variants as O
 use Rattle.opcode.specs.declared.Found.{Found}
@@ -13,16 +12,17 @@ use Rattle.words.specs.declared.Decoded.{Decoded}
 use Rattle.words.specs.declared.Decoded.the-variants as D
 use Rattle.words.specs.declared.Encoded.{Encoded}
 use Rattle.words.specs.declared.Encoded.the-variants as E
-use Rattle.layout.specs.Answer.{answerBytes}
+use Rattle.exports.specs.declared.triple.Triple.{Triple}
+use Rattle.exports.specs.Triples.{triple, refusalTriple}
 
 -- the opcode's number and the registers at bits 7, 11 and 15, a byte each
 abbrev pub packedOf : Parts → ℕ
 packedOf p = opcodeNumber (p .op) + 2 ^ 8 * p .a + 2 ^ 16 * p .b + 2 ^ 24 * p .c
 
--- 0, the packed parts, the immediate; or the refusal's number, 0, its particular
-abbrev pub decodedBytes : Decoded → List ℕ
-decodedBytes (D.Instruction i) = answerBytes 0 (packedOf (partsOf i)) (partsOf i .imm)
-decodedBytes (D.Refused r) = answerBytes (numberOf r) 0 (particularOf r)
+-- 0, the packed parts, the immediate; or the refusal
+abbrev pub decodedTriple : Decoded → Triple
+decodedTriple (D.Instruction i) = triple 0 (packedOf (partsOf i)) (partsOf i .imm)
+decodedTriple (D.Refused r) = refusalTriple r
 
 -- a word, or 2^64 - 1 less the refusal's number
 abbrev pub encodedNumber : Encoded → ℕ

@@ -1,3 +1,4 @@
+pub mod Triples
 pub mod Coding
 pub mod Limbs
 pub mod Lists

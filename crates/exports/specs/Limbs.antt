@@ -4,15 +4,16 @@ use mathlib.Core.Bool.{Bool, true, false, cond}
 use mathlib.Core.List.{List}
 use lib.ListN.{getD}
 use lib.Dec.{eqb}
-use Rattle.refusal.specs.Stops.{numberOf}
-use Rattle.normalize.specs.Normalizing.{hasCarries, totalCarry, normalizeRegister, normalizeAndWrite, normalizeIfNearOverflow}
+use Rattle.refusal.specs.Stops.{numberOf, refusalOf}
+use Rattle.normalize.specs.Normalizing.{zeros, hasCarries, totalCarry, normalizeRegister, normalizeAndWrite, normalizeIfNearOverflow}
 use Rattle.state.specs.declared.State.{State}
 use Rattle.normalize.specs.declared.NormalizationResult.{NormalizationResult}
 use Rattle.normalize.specs.declared.Normalized.{Normalized}
 use Rattle.normalize.specs.declared.Normalizing.{Normalizing}
 use Rattle.normalize.specs.declared.Normalizing.the-variants.{Unneeded, Done, Refused}
-use Rattle.layout.specs.Layout.{STATE_BYTES, stateBytes, written}
-use Rattle.layout.specs.Answer.{ANSWER_BYTES, answerBytes}
+use Rattle.layout.specs.Layout.{STATE_BYTES, stateBytes, stateIn, wellLaid, written}
+use Rattle.exports.specs.declared.triple.Triple.{Triple}
+use Rattle.exports.specs.Triples.{triple, tripled}
 
 -- 0 `normalize_register`, 1 `normalize_if_near_overflow`, any other `normalize_and_write`, which alone looks at the limbs given
 unfoldable pub normalizedBy : ℕ → State → ℕ → ℕ → ℕ → Normalized
@@ -39,21 +40,27 @@ bitOf false = 0
 bitOf true = 1
 
 -- the code and the limbs before
-abbrev pub beforeBytes : Normalizing → NormalizationResult → List ℕ
-beforeBytes n r = answerBytes (codeOf n) (getD (r .accumulated) 0 0) (getD (r .accumulated) 1 0)
+abbrev pub beforeTriple : Normalizing → NormalizationResult → Triple
+beforeTriple n r = triple (codeOf n) (getD (r .accumulated) 0 0) (getD (r .accumulated) 1 0)
 
 -- the limbs after, and whether there are carries
-abbrev pub afterBytes : NormalizationResult → List ℕ
-afterBytes r = answerBytes (getD (r .normalized) 0 0) (getD (r .normalized) 1 0) (bitOf (hasCarries r))
+abbrev pub afterTriple : NormalizationResult → Triple
+afterTriple r = triple (getD (r .normalized) 0 0) (getD (r .normalized) 1 0) (bitOf (hasCarries r))
 
 -- the carries and their total
-abbrev pub carryBytes : NormalizationResult → List ℕ
-carryBytes r = answerBytes (getD (r .carries) 0 0) (getD (r .carries) 1 0) (totalCarry r)
+abbrev pub carryTriple : NormalizationResult → Triple
+carryTriple r = triple (getD (r .carries) 0 0) (getD (r .carries) 1 0) (totalCarry r)
 
-abbrev pub laidOut : Normalized → Lent → Lent
-laidOut n g =
-    lent
-    (written STATE_BYTES (stateBytes (n .state)) (g .state))
-    (written ANSWER_BYTES (beforeBytes (n .answer) (n .result)) (g .before))
-    (written ANSWER_BYTES (afterBytes (n .result)) (g .after))
-    (written ANSWER_BYTES (carryBytes (n .result)) (g .carries))
+abbrev pub laidOut : List ℕ → Normalizing → NormalizationResult → Lent → Lent
+laidOut st n r g =
+    lent st (tripled (beforeTriple n r) (g .before)) (tripled (afterTriple r) (g .after)) (tripled (carryTriple r) (g .carries))
+
+abbrev pub normalizedIn : Normalized → Lent → Lent
+normalizedIn n g = laidOut (written STATE_BYTES (stateBytes (n .state)) (g .state)) (n .answer) (n .result) g
+
+-- bytes that are no state's are refused (9), and stay as they are
+unfoldable pub normalizing : ℕ → ℕ → ℕ → ℕ → Lent → Lent
+normalizing which reg low high g =
+    cond (wellLaid (g .state))
+    (normalizedIn (normalizedBy which (stateIn (g .state)) reg low high) g)
+    (laidOut (g .state) (Refused (refusalOf 9 0)) zeros g)

@@ -1,44 +1,42 @@
 -- One given instruction, one step and a run with lists, over the bytes of a state.
 use Prim.Native.Nat.{ℕ}
-use mathlib.Core.List.{List}
-use Rattle.refusal.specs.Stops.{numberOf, particularOf, codeOf, particularAt}
+use mathlib.Core.Bool.{Bool, cond, _&&_}
+use mathlib.Core.List.{List, [], _∷_}
+use lib.Dec.{leb}
+use Rattle.refusal.specs.Stops.{refusalOf, codeOf, particularAt}
 use Rattle.refusal.specs.declared.Stop.{Stop}
-use Rattle.execute.specs.World.{World, Stepped}
+use Rattle.refusal.specs.declared.Stop.the-variants as S
+use Rattle.instruction.specs.declared.Instruction.{Instruction}
+use Rattle.effect.specs.Notes.{documentNotes}
+use Rattle.execute.specs.World.{World, worldOf, Stepped}
+use Rattle.execute.specs.Execute.{executeOne}
+use Rattle.execute.specs.Rules.{documentRules}
 use Rattle.execute.specs.declared.Went.{Went}
-use Rattle.execute.specs.declared.Went.the-variants as W
-use Rattle.pending.specs.declared.Check.{Check}
-use Rattle.pending.specs.declared.Check.the-variants.{Unneeded, Needed}
-use Rattle.pending.specs.Pending.{Lists}
-use Rattle.step.specs.Step.{Left}
-use Rattle.run.specs.Run.{Answer}
-use Rattle.layout.specs.Layout.{STATE_BYTES, stateBytes, written}
+use Rattle.pending.specs.Pending.{Lists, Check}
+use Rattle.step.specs.Step.{Left, step}
+use Rattle.run.specs.Run.{Answer, stopOf, run}
+use Rattle.layout.specs.Layout.{STATE_BYTES, stateBytes, stateIn, wellLaid, written}
 use Rattle.layout.specs.Answer.{ANSWER_BYTES, answerBytes}
-use Rattle.host.specs.Call.{stateOf}
+use Rattle.host.specs.Call.{modeOf, stateOf}
+use Rattle.exports.specs.declared.triple.Triple.{Triple}
+use Rattle.exports.specs.Triples.{triple, tripled, refusalTriple}
 
--- as a stop that it would be: 0 where it goes on
-abbrev pub wentCode : Went → ℕ
-wentCode W.On = 0
-wentCode W.Ebreak = 64
-wentCode W.Ecall = 65
-wentCode (W.Refused r) = numberOf r
+-- the bytes are a state's, and the number a mode's: 9 otherwise, and then nothing but answers is written
+unfoldable pub legible : List ℕ → ℕ → Bool
+legible st mode = leb mode 1 && wellLaid st
 
-abbrev pub wentParticular : Went → ℕ
-wentParticular W.On = 0
-wentParticular W.Ebreak = 0
-wentParticular W.Ecall = 0
-wentParticular (W.Refused r) = particularOf r
+-- code, 0, particular, as of the stop that it would be: 0 where it goes on
+abbrev pub wentTriple : Went → Triple
+wentTriple g = triple (codeOf (stopOf g)) 0 (particularAt (stopOf g))
 
--- "code, steps, particular"; a step by itself counts none
-abbrev pub wentBytes : Went → List ℕ
-wentBytes g = answerBytes (wentCode g) 0 (wentParticular g)
+-- 1, the value and the bound of the first; or zeros
+abbrev pub checkTriple : List Check → Triple
+checkTriple [] = triple 0 0 0
+checkTriple (c ∷ cs) = triple 1 (c .value) (c .bound)
 
+-- "code, steps, particular"
 abbrev pub stopBytes : Stop → ℕ → List ℕ
 stopBytes p steps = answerBytes (codeOf p) steps (particularAt p)
-
--- 1, the value and the bound; or zeros
-abbrev pub checkBytes : Check → List ℕ
-checkBytes Unneeded = answerBytes 0 0 0
-checkBytes (Needed bound value) = answerBytes 1 value bound
 
 -- what is lent to a given instruction
 pub record Given : Type 0 where
@@ -55,8 +53,14 @@ executedIn s g =
     given
     (written STATE_BYTES (stateBytes (stateOf (s .world))) (g .state))
     (s .world .memory)
-    (written ANSWER_BYTES (wentBytes (s .went)) (g .answer))
-    (written ANSWER_BYTES (checkBytes (s .check)) (g .check))
+    (tripled (wentTriple (s .went)) (g .answer))
+    (tripled (checkTriple (s .checks)) (g .check))
+
+unfoldable pub executing : ℕ → Instruction → Given → Given
+executing mode i g =
+    cond (legible (g .state) mode)
+    (executedIn (executeOne (modeOf mode) documentNotes i (worldOf (stateIn (g .state)) (g .memory))) g)
+    (given (g .state) (g .memory) (tripled (refusalTriple (refusalOf 9 0)) (g .answer)) (tripled (checkTriple []) (g .check)))
 
 -- what is lent to a step or a run
 pub record Lent : Type 0 where
@@ -68,12 +72,23 @@ pub record Lent : Type 0 where
 abbrev pub lent : List ℕ → List ℕ → List ℕ → Lists → Lent
 lent st m an l = record { state = st; memory = m; answer = an; lists = l }
 
-abbrev pub leaving : List ℕ → World → Lists → Lent → Lent
-leaving answered w l b =
-    lent (written STATE_BYTES (stateBytes (stateOf w)) (b .state)) (w .memory) (written ANSWER_BYTES answered (b .answer)) l
+abbrev pub leaving : World → List ℕ → Lists → Lent → Lent
+leaving w an l b = lent (written STATE_BYTES (stateBytes (stateOf w)) (b .state)) (w .memory) an l
 
 abbrev pub steppedIn : Left → Lent → Lent
-steppedIn s b = leaving (wentBytes (s .went)) (s .world) (s .lists) b
+steppedIn s b = leaving (s .world) (tripled (wentTriple (s .went)) (b .answer)) (s .lists) b
+
+unfoldable pub stepping : ℕ → Lent → Lent
+stepping mode b =
+    cond (legible (b .state) mode)
+    (steppedIn (step (modeOf mode) documentRules (worldOf (stateIn (b .state)) (b .memory)) (b .lists)) b)
+    (lent (b .state) (b .memory) (tripled (refusalTriple (refusalOf 9 0)) (b .answer)) (b .lists))
 
 abbrev pub ranIn : Answer → Lent → Lent
-ranIn a b = leaving (stopBytes (a .stop) (a .steps)) (a .world) (a .lists) b
+ranIn a b = leaving (a .world) (written ANSWER_BYTES (stopBytes (a .stop) (a .steps)) (b .answer)) (a .lists) b
+
+unfoldable pub running : ℕ → ℕ → Lent → Lent
+running mode fuel b =
+    cond (legible (b .state) mode)
+    (ranIn (run (modeOf mode) documentRules fuel (worldOf (stateIn (b .state)) (b .memory)) (b .lists)) b)
+    (lent (b .state) (b .memory) (written ANSWER_BYTES (stopBytes (S.Refused (refusalOf 9 0)) 0) (b .answer)) (b .lists))

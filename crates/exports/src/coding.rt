@@ -1,18 +1,18 @@
 // Decoder and encoder of instructions: `words`.
+use crate::triple::Triple;
+use crate::triple::refused;
+use crate::triple::write_triple;
 use instruction::Instruction;
 use instruction::Parts;
-use layout::answer::write_answer;
 use opcode::Found;
 use refusal::number;
-use refusal::particular;
 use words::Decoded;
 use words::Encoded;
 ghost use mathlib.Core.Path.{_≡_};
 ghost use Rattle.opcode.specs.Opcodes.{opcodeNumber, opcodeIn};
 ghost use Rattle.words.specs.Words.{decodeIn, encodeIn};
-ghost use Rattle.layout.specs.Layout.{written};
-ghost use Rattle.layout.specs.Answer.{ANSWER_BYTES};
-ghost use Rattle.exports.specs.Coding.{packedOf, decodedBytes, encodedNumber, givenOf};
+ghost use Rattle.exports.specs.Triples.{tripled};
+ghost use Rattle.exports.specs.Coding.{packedOf, decodedTriple, encodedNumber, givenOf};
 
 fn packed(p: Parts) -> u64
     ensures { λ r. ⌜ r ≡ packedOf p ⌝ }
@@ -21,17 +21,27 @@ fn packed(p: Parts) -> u64
     opcode::number(op) as u64 + 0x100 * p.a as u64 + 0x1_0000 * p.b as u64 + 0x100_0000 * p.c as u64
 }
 
-#[no_mangle]
-pub extern "C" fn oracle_decode(answer: &mut [u8], word: u32)
-    ensures { λ _. ⌜ now (answer .exit) ≡ written ANSWER_BYTES (decodedBytes (decodeIn opcodeNumber word)) (now (answer .entry)) ⌝ }
+fn decoded(d: Decoded) -> Triple
+    ensures { λ r. ⌜ r ≡ decodedTriple d ⌝ }
 {
-    match words::decode(word) {
+    match d {
         Decoded::Instruction(i) => {
             let p = instruction::parts_of(i);
-            write_answer(answer, 0, packed(p), p.imm);
+            Triple {
+                first: 0,
+                second: packed(p),
+                third: p.imm,
+            }
         }
-        Decoded::Refused(r) => write_answer(answer, number(r), 0, particular(r)),
+        Decoded::Refused(r) => refused(r),
     }
+}
+
+#[no_mangle]
+pub extern "C" fn oracle_decode(answer: &mut [u8], word: u32)
+    ensures { λ _. ⌜ now (answer .exit) ≡ tripled (decodedTriple (decodeIn opcodeNumber word)) (now (answer .entry)) ⌝ }
+{
+    write_triple(answer, decoded(words::decode(word)));
 }
 
 fn encoded(e: Encoded) -> u64

@@ -1,17 +1,19 @@
-// Limb operations, over the bytes of a state: `normalize`.
-use layout::answer::write_answer;
+// Limb operations, over the bytes of a state: `normalize`. Bytes that are no state's are refused (9).
+use crate::triple::Triple;
+use crate::triple::write_triple;
+use layout::laid::well_laid;
 use layout::reading::read_state;
 use layout::writing::write_state;
 use normalize::NormalizationResult;
 use normalize::Normalized;
 use normalize::Normalizing;
+use refusal::Refusal;
 use refusal::number;
 use state::State;
 ghost use mathlib.Core.Path.{_≡_};
 ghost use Rattle.normalize.specs.Normalizing.{wouldOverflow};
-ghost use Rattle.layout.specs.Layout.{stateIn, written};
-ghost use Rattle.layout.specs.Answer.{ANSWER_BYTES};
-ghost use Rattle.exports.specs.Limbs.{normalizedBy, lent, codeOf, bitOf, beforeBytes, afterBytes, carryBytes, laidOut};
+ghost use Rattle.exports.specs.Triples.{tripled};
+ghost use Rattle.exports.specs.Limbs.{normalizedBy, lent, codeOf, bitOf, beforeTriple, afterTriple, carryTriple, normalizing};
 
 fn code_of(n: Normalizing) -> u64
     ensures { λ r. ⌜ r ≡ codeOf n ⌝ }
@@ -29,10 +31,51 @@ fn bit_of(t: bool) -> u64
     if t { 1 } else { 0 }
 }
 
-fn wide(x: u32) -> u64
-    ensures { λ r. ⌜ r ≡ x ⌝ }
+fn before_of(n: Normalizing, r: NormalizationResult) -> Triple
+    ensures { λ t. ⌜ t ≡ beforeTriple n r ⌝ }
 {
-    x as u64
+    let limbs = r.accumulated;
+    Triple {
+        first: code_of(n),
+        second: limbs[0],
+        third: limbs[1],
+    }
+}
+
+fn after_of(r: NormalizationResult) -> Triple
+    ensures { λ t. ⌜ t ≡ afterTriple r ⌝ }
+{
+    let limbs = r.normalized;
+    Triple {
+        first: limbs[0] as u64,
+        second: limbs[1] as u64,
+        third: bit_of(normalize::has_carries(r)),
+    }
+}
+
+fn carries_of(r: NormalizationResult) -> Triple
+    ensures { λ t. ⌜ t ≡ carryTriple r ⌝ }
+{
+    let carries = r.carries;
+    Triple {
+        first: carries[0] as u64,
+        second: carries[1] as u64,
+        third: normalize::total_carry(r),
+    }
+}
+
+fn give(
+    before: &mut [u8],
+    after: &mut [u8],
+    carries: &mut [u8],
+    answer: Normalizing,
+    r: NormalizationResult,
+)
+    ensures { λ _. ⌜ (now (before .exit) ≡ tripled (beforeTriple answer r) (now (before .entry))) × (now (after .exit) ≡ tripled (afterTriple r) (now (after .entry))) × (now (carries .exit) ≡ tripled (carryTriple r) (now (carries .entry))) ⌝ }
+{
+    write_triple(before, before_of(answer, r));
+    write_triple(after, after_of(r));
+    write_triple(carries, carries_of(r));
 }
 
 fn normalized_by(which: u64, s: State, reg: u8, low: u64, high: u64) -> Normalized
@@ -47,32 +90,6 @@ fn normalized_by(which: u64, s: State, reg: u8, low: u64, high: u64) -> Normaliz
     normalize::normalize_and_write(s, reg, low, high)
 }
 
-// The code and the limbs before.
-fn put_before(bytes: &mut [u8], answer: Normalizing, r: NormalizationResult)
-    ensures { λ _. ⌜ now (bytes .exit) ≡ written ANSWER_BYTES (beforeBytes answer r) (now (bytes .entry)) ⌝ }
-{
-    let limbs = r.accumulated;
-    write_answer(bytes, code_of(answer), limbs[0], limbs[1]);
-}
-
-// The limbs after, and whether there are carries.
-fn put_after(bytes: &mut [u8], r: NormalizationResult)
-    ensures { λ _. ⌜ now (bytes .exit) ≡ written ANSWER_BYTES (afterBytes r) (now (bytes .entry)) ⌝ }
-{
-    let limbs = r.normalized;
-    let any = bit_of(normalize::has_carries(r));
-    write_answer(bytes, wide(limbs[0]), wide(limbs[1]), any);
-}
-
-// The carries and their total.
-fn put_carries(bytes: &mut [u8], r: NormalizationResult)
-    ensures { λ _. ⌜ now (bytes .exit) ≡ written ANSWER_BYTES (carryBytes r) (now (bytes .entry)) ⌝ }
-{
-    let carries = r.carries;
-    let total = normalize::total_carry(r);
-    write_answer(bytes, wide(carries[0]), wide(carries[1]), total);
-}
-
 #[no_mangle]
 pub extern "C" fn oracle_normalize(
     state: &mut [u8],
@@ -84,16 +101,24 @@ pub extern "C" fn oracle_normalize(
     low: u64,
     high: u64,
 )
-    ensures { λ _. ⌜ lent (now (state .exit)) (now (before .exit)) (now (after .exit)) (now (carries .exit)) ≡ laidOut (normalizedBy which (stateIn (now (state .entry))) reg low high) (lent (now (state .entry)) (now (before .entry)) (now (after .entry)) (now (carries .entry))) ⌝ }
+    ensures { λ _. ⌜ lent (now (state .exit)) (now (before .exit)) (now (after .exit)) (now (carries .exit)) ≡ normalizing which reg low high (lent (now (state .entry)) (now (before .entry)) (now (after .entry)) (now (carries .entry))) ⌝ }
 {
+    if !well_laid(state) {
+        let nothing = NormalizationResult {
+            accumulated: [0, 0],
+            normalized: [0, 0],
+            carries: [0, 0],
+        };
+        let malformed = Normalizing::Refused(Refusal::Malformed);
+        give(before, after, carries, malformed, nothing);
+        return;
+    }
     let n = normalized_by(which, read_state(state), reg, low, high);
     let answer = n.answer;
     let result = n.result;
     let s = n.state;
     write_state(state, s);
-    put_before(before, answer, result);
-    put_after(after, result);
-    put_carries(carries, result);
+    give(before, after, carries, answer, result);
 }
 
 #[no_mangle]

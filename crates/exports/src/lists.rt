@@ -1,21 +1,24 @@
 // Pending checks, in three lent lists: `pending`.
-use layout::answer::write_answer;
+use crate::triple::Triple;
+use crate::triple::refused;
+use crate::triple::write_triple;
 use pending::Appended;
 use pending::Entry;
-use refusal::number;
-use refusal::particular;
 ghost use mathlib.Core.Path.{_≡_};
 ghost use Rattle.pending.specs.Pending.{lists, appendAnswer, appendLists, emptied, entryAt};
-ghost use Rattle.layout.specs.Layout.{written};
-ghost use Rattle.layout.specs.Answer.{ANSWER_BYTES};
-ghost use Rattle.exports.specs.Lists.{appendedBytes, entryIn};
+ghost use Rattle.exports.specs.Triples.{tripled};
+ghost use Rattle.exports.specs.Lists.{appendedTriple, entryIn};
 
-fn answer_with(answer: &mut [u8], a: Appended)
-    ensures { λ _. ⌜ now (answer .exit) ≡ written ANSWER_BYTES (appendedBytes a) (now (answer .entry)) ⌝ }
+fn appended(a: Appended) -> Triple
+    ensures { λ r. ⌜ r ≡ appendedTriple a ⌝ }
 {
     match a {
-        Appended::At(n) => write_answer(answer, 0, n as u64, 0),
-        Appended::Refused(r) => write_answer(answer, number(r), 0, particular(r)),
+        Appended::At(n) => Triple {
+            first: 0,
+            second: n as u64,
+            third: 0,
+        },
+        Appended::Refused(r) => refused(r),
     }
 }
 
@@ -30,10 +33,10 @@ pub extern "C" fn oracle_append(
     width: u8,
     pc: u64,
 )
-    ensures { λ _. ⌜ (now (answer .exit) ≡ written ANSWER_BYTES (appendedBytes (appendAnswer value width pc (lists count (now (values .entry)) (now (widths .entry)) (now (pcs .entry))))) (now (answer .entry))) × (lists ((appendLists value width pc (lists count (now (values .entry)) (now (widths .entry)) (now (pcs .entry)))) .count) (now (values .exit)) (now (widths .exit)) (now (pcs .exit)) ≡ appendLists value width pc (lists count (now (values .entry)) (now (widths .entry)) (now (pcs .entry)))) ⌝ }
+    ensures { λ _. ⌜ (now (answer .exit) ≡ tripled (appendedTriple (appendAnswer value width pc (lists count (now (values .entry)) (now (widths .entry)) (now (pcs .entry))))) (now (answer .entry))) × (lists ((appendLists value width pc (lists count (now (values .entry)) (now (widths .entry)) (now (pcs .entry)))) .count) (now (values .exit)) (now (widths .exit)) (now (pcs .exit)) ≡ appendLists value width pc (lists count (now (values .entry)) (now (widths .entry)) (now (pcs .entry)))) ⌝ }
 {
     let a = pending::append(values, widths, pcs, count, value, width, pc);
-    answer_with(answer, a);
+    write_triple(answer, appended(a));
 }
 
 #[no_mangle]
@@ -52,7 +55,14 @@ fn give_entry(answer: &mut [u8], e: Entry)
     ensures { λ _. ⌜ now (answer .exit) ≡ entryIn e (now (answer .entry)) ⌝ }
 {
     match e {
-        Entry::Check { value, width, pc } => write_answer(answer, value, width as u64, pc),
+        Entry::Check { value, width, pc } => write_triple(
+            answer,
+            Triple {
+                first: value,
+                second: width as u64,
+                third: pc,
+            },
+        ),
         Entry::Nothing => {}
     }
 }

@@ -1,88 +1,73 @@
-// One given instruction, one step, and a run with the three lists, over the bytes of a state: `execute` and `run`.
-// Mode 0 is plain, any other deferred.
+// One given instruction, one step, and a run with the three lists, over the bytes of a state: `execute`, `step` and `run`. Bytes
+// that are no state's and modes other than 0 and 1 are refused (9).
 use crate::coding;
+use crate::triple::Triple;
+use crate::triple::refused;
+use crate::triple::write_triple;
+use execute::Choices;
 use execute::Mode;
 use execute::Went;
+use host::mode_of;
 use layout::answer::write_answer;
+use layout::laid::well_laid;
 use layout::reading::read_state;
 use layout::writing::write_state;
-use pending::Check;
-use refusal::Stop;
+use pending::Checks;
+use refusal::Refusal;
 use run::Ran;
+use run::legs::stop_of;
 use state::State;
 ghost use mathlib.Core.Path.{_≡_};
 ghost use Rattle.opcode.specs.Opcodes.{opcodeNumber, opcodeIn};
 ghost use Rattle.execute.specs.World.{worldOf};
-ghost use Rattle.execute.specs.Execute.{executeOne};
-ghost use Rattle.effect.specs.Notes.{documentNotes};
-ghost use Rattle.pending.specs.Pending.{lists};
-ghost use Rattle.step.specs.Step.{documentRules, step};
+ghost use Rattle.execute.specs.Rules.{documentRules};
+ghost use Rattle.pending.specs.Pending.{lists, checksOf};
 ghost use Rattle.run.specs.Run.{run, ran};
-ghost use Rattle.layout.specs.Layout.{STATE_BYTES, stateBytes, stateIn, written};
+ghost use Rattle.layout.specs.Layout.{STATE_BYTES, stateBytes, written};
 ghost use Rattle.layout.specs.Answer.{ANSWER_BYTES};
-ghost use Rattle.host.specs.Call.{modeOf};
+ghost use Rattle.exports.specs.Triples.{tripled};
 ghost use Rattle.exports.specs.Coding.{givenOf};
-ghost use Rattle.exports.specs.Machine.{wentCode, wentParticular, wentBytes, stopBytes, checkBytes, given, executedIn, lent, steppedIn, ranIn};
+ghost use Rattle.exports.specs.Machine.{wentTriple, checkTriple, stopBytes, legible, given, executing, lent, stepping, running};
 
-fn mode_of(n: u64) -> Mode
-    ensures { λ r. ⌜ r ≡ modeOf n ⌝ }
+// Whether the bytes are a state's and the number a mode's.
+fn legible(state: &[u8], mode: u64) -> bool
+    ensures { λ r. ⌜ r ≡ legible (now (state .entry)) mode ⌝ }
 {
-    if n == 0 {
-        return Mode::Plain;
+    if 1 < mode {
+        return false;
     }
-    Mode::Deferred
+    well_laid(state)
 }
 
-fn code_of(went: Went) -> u64
-    ensures { λ r. ⌜ r ≡ wentCode went ⌝ }
+fn first_of(checks: Checks) -> Triple
+    ensures { λ r. ⌜ r ≡ checkTriple (checksOf checks) ⌝ }
 {
-    match went {
-        Went::On => 0,
-        Went::Ebreak => 64,
-        Went::Ecall => 65,
-        Went::Refused(r) => refusal::number(r),
-    }
-}
-
-fn particular_of(went: Went) -> u64
-    ensures { λ r. ⌜ r ≡ wentParticular went ⌝ }
-{
-    match went {
-        Went::On => 0,
-        Went::Ebreak => 0,
-        Went::Ecall => 0,
-        Went::Refused(r) => refusal::particular(r),
+    match checks {
+        Checks::Nothing => Triple {
+            first: 0,
+            second: 0,
+            third: 0,
+        },
+        Checks::One { value, bound } => Triple {
+            first: 1,
+            second: value,
+            third: bound as u64,
+        },
     }
 }
 
-fn write_check(bytes: &mut [u8], check: Check)
-    ensures { λ _. ⌜ now (bytes .exit) ≡ written ANSWER_BYTES (checkBytes check) (now (bytes .entry)) ⌝ }
-{
-    match check {
-        Check::Unneeded => write_answer(bytes, 0, 0, 0),
-        Check::Needed { value, bound } => write_answer(bytes, 1, value, bound as u64),
-    }
-}
-
-// The state after, and how a step went: code, 0, particular.
+// The state after, and how a step went.
 fn leave_step(state: &mut [u8], answer: &mut [u8], after: State, went: Went)
-    ensures { λ _. ⌜ (now (state .exit) ≡ written STATE_BYTES (stateBytes after) (now (state .entry))) × (now (answer .exit) ≡ written ANSWER_BYTES (wentBytes went) (now (answer .entry))) ⌝ }
+    ensures { λ _. ⌜ (now (state .exit) ≡ written STATE_BYTES (stateBytes after) (now (state .entry))) × (now (answer .exit) ≡ tripled (wentTriple went) (now (answer .entry))) ⌝ }
 {
+    let stop = stop_of(went);
+    let t = Triple {
+        first: refusal::code(stop),
+        second: 0,
+        third: refusal::particular_at(stop),
+    };
     write_state(state, after);
-    write_answer(answer, code_of(went), 0, particular_of(went));
-}
-
-// The state after, and how a run stopped: code, steps, particular.
-fn leave_run(state: &mut [u8], answer: &mut [u8], after: State, stop: Stop, steps: u64)
-    ensures { λ _. ⌜ (now (state .exit) ≡ written STATE_BYTES (stateBytes after) (now (state .entry))) × (now (answer .exit) ≡ written ANSWER_BYTES (stopBytes stop steps) (now (answer .entry))) ⌝ }
-{
-    write_state(state, after);
-    write_answer(
-        answer,
-        refusal::code(stop),
-        steps,
-        refusal::particular_at(stop),
-    );
+    write_triple(answer, t);
 }
 
 #[no_mangle]
@@ -98,15 +83,23 @@ pub extern "C" fn oracle_execute(
     c: u8,
     imm: u64,
 )
-    ensures { λ _. ⌜ given (now (state .exit)) (now (memory .exit)) (now (answer .exit)) (now (check .exit)) ≡ executedIn (executeOne (modeOf mode) documentNotes (givenOf (opcodeIn opcodeNumber opcode) a b c imm) (worldOf (stateIn (now (state .entry))) (now (memory .entry)))) (given (now (state .entry)) (now (memory .entry)) (now (answer .entry)) (now (check .entry))) ⌝ }
+    ensures { λ _. ⌜ given (now (state .exit)) (now (memory .exit)) (now (answer .exit)) (now (check .exit)) ≡ executing mode (givenOf (opcodeIn opcodeNumber opcode) a b c imm) (given (now (state .entry)) (now (memory .entry)) (now (answer .entry)) (now (check .entry))) ⌝ }
 {
+    if !legible(state, mode) {
+        write_triple(answer, refused(Refusal::Malformed));
+        write_triple(check, first_of(Checks::Nothing));
+        return;
+    }
     let i = coding::given(opcode, a, b, c, imm);
-    let r = execute::execute(mode_of(mode), i, read_state(state), memory);
+    let choices = Choices {
+        mode: mode_of(mode),
+    };
+    let r = execute::execute(choices, i, read_state(state), memory);
     let went = r.went;
-    let asked = r.check;
+    let checks = r.checks;
     let after = r.state;
     leave_step(state, answer, after, went);
-    write_check(check, asked);
+    write_triple(check, first_of(checks));
 }
 
 #[no_mangle]
@@ -120,17 +113,17 @@ pub extern "C" fn oracle_step(
     count: usize,
     mode: u64,
 ) -> usize
-    ensures { λ r. ⌜ lent (now (state .exit)) (now (memory .exit)) (now (answer .exit)) (lists r (now (values .exit)) (now (widths .exit)) (now (pcs .exit))) ≡ steppedIn (step (modeOf mode) documentRules (worldOf (stateIn (now (state .entry))) (now (memory .entry))) (lists count (now (values .entry)) (now (widths .entry)) (now (pcs .entry)))) (lent (now (state .entry)) (now (memory .entry)) (now (answer .entry)) (lists count (now (values .entry)) (now (widths .entry)) (now (pcs .entry)))) ⌝ }
+    ensures { λ r. ⌜ lent (now (state .exit)) (now (memory .exit)) (now (answer .exit)) (lists r (now (values .exit)) (now (widths .exit)) (now (pcs .exit))) ≡ stepping mode (lent (now (state .entry)) (now (memory .entry)) (now (answer .entry)) (lists count (now (values .entry)) (now (widths .entry)) (now (pcs .entry)))) ⌝ }
 {
-    let r = step::step(
-        mode_of(mode),
-        read_state(state),
-        memory,
-        values,
-        widths,
-        pcs,
-        count,
-    );
+    if !legible(state, mode) {
+        write_triple(answer, refused(Refusal::Malformed));
+        return count;
+    }
+    let choices = Choices {
+        mode: mode_of(mode),
+    };
+    let s = read_state(state);
+    let r = step::step(choices, s, memory, values, widths, pcs, count);
     let went = r.went;
     let after = r.state;
     leave_step(state, answer, after, went);
@@ -138,7 +131,7 @@ pub extern "C" fn oracle_step(
 }
 
 fn run_by(
-    mode: u64,
+    mode: Mode,
     s: State,
     fuel: u64,
     m: &mut [u8],
@@ -147,12 +140,27 @@ fn run_by(
     pcs: &mut [u64],
     count: usize,
 ) -> Ran
-    ensures { λ r. ⌜ ran r (now (m .exit)) (now (values .exit)) (now (widths .exit)) (now (pcs .exit)) ≡ run (modeOf mode) documentRules fuel (worldOf s (now (m .entry))) (lists count (now (values .entry)) (now (widths .entry)) (now (pcs .entry))) ⌝ }
+    ensures { λ r. ⌜ ran r (now (m .exit)) (now (values .exit)) (now (widths .exit)) (now (pcs .exit)) ≡ run mode documentRules fuel (worldOf s (now (m .entry))) (lists count (now (values .entry)) (now (widths .entry)) (now (pcs .entry))) ⌝ }
 {
-    if mode == 0 {
-        return run::run_plain(s, fuel, m, values, widths, pcs, count);
+    match mode {
+        Mode::Plain => run::run_plain(s, fuel, m, values, widths, pcs, count),
+        Mode::Deferred => run::run_deferred(s, fuel, m, values, widths, pcs, count),
     }
-    run::run_deferred(s, fuel, m, values, widths, pcs, count)
+}
+
+// The state after, and how a run stopped.
+fn leave_run(state: &mut [u8], answer: &mut [u8], r: Ran)
+    ensures { λ _. ⌜ (now (state .exit) ≡ written STATE_BYTES (stateBytes (r .state)) (now (state .entry))) × (now (answer .exit) ≡ written ANSWER_BYTES (stopBytes (r .stop) (r .steps)) (now (answer .entry))) ⌝ }
+{
+    let stop = r.stop;
+    let after = r.state;
+    write_state(state, after);
+    write_answer(
+        answer,
+        refusal::code(stop),
+        r.steps,
+        refusal::particular_at(stop),
+    );
 }
 
 #[no_mangle]
@@ -167,20 +175,14 @@ pub extern "C" fn oracle_run(
     fuel: u64,
     mode: u64,
 ) -> usize
-    ensures { λ r. ⌜ lent (now (state .exit)) (now (memory .exit)) (now (answer .exit)) (lists r (now (values .exit)) (now (widths .exit)) (now (pcs .exit))) ≡ ranIn (run (modeOf mode) documentRules fuel (worldOf (stateIn (now (state .entry))) (now (memory .entry))) (lists count (now (values .entry)) (now (widths .entry)) (now (pcs .entry)))) (lent (now (state .entry)) (now (memory .entry)) (now (answer .entry)) (lists count (now (values .entry)) (now (widths .entry)) (now (pcs .entry)))) ⌝ }
+    ensures { λ r. ⌜ lent (now (state .exit)) (now (memory .exit)) (now (answer .exit)) (lists r (now (values .exit)) (now (widths .exit)) (now (pcs .exit))) ≡ running mode fuel (lent (now (state .entry)) (now (memory .entry)) (now (answer .entry)) (lists count (now (values .entry)) (now (widths .entry)) (now (pcs .entry)))) ⌝ }
 {
-    let r = run_by(
-        mode,
-        read_state(state),
-        fuel,
-        memory,
-        values,
-        widths,
-        pcs,
-        count,
-    );
-    let stop = r.stop;
-    let after = r.state;
-    leave_run(state, answer, after, stop, r.steps);
+    if !legible(state, mode) {
+        write_answer(answer, 9, 0, 0);
+        return count;
+    }
+    let s = read_state(state);
+    let r = run_by(mode_of(mode), s, fuel, memory, values, widths, pcs, count);
+    leave_run(state, answer, r);
     r.count
 }

@@ -12,7 +12,7 @@ enum-known-e-2 : tie.Need-enum-known-e-2
 enum-known-e-2 c = search needs
 
 number-requires : tie.Need-number-requires
-number-requires c κs = search needs
+number-requires c κs = tt
 
 sub-result : tie.Need-sub-result
 sub-result c = search needs

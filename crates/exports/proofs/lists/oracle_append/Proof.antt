@@ -3,10 +3,13 @@ use Rattle.exports.proofs.lists.oracle_append.Statement.{statement}
 use Rattle.exports.proofs.lists.oracle_append.Tie as tie
 
 append-requires : tie.Need-append-requires
-append-requires c κs = search needs
+append-requires c κs = tt
 
-answer-with-requires : tie.Need-answer-with-requires
-answer-with-requires c κs = search needs
+appended-requires : tie.Need-appended-requires
+appended-requires c κs = tt
+
+write-triple-requires : tie.Need-write-triple-requires
+write-triple-requires c κs = tt
 
 same-length : tie.Need-same-length
 same-length c = search needs
@@ -21,14 +24,15 @@ same-length-4 : tie.Need-same-length-4
 same-length-4 c = search needs
 
 returns : tie.Need-returns
-returns c = (rw (c .before .before .answer-with .ensures, c .before .before .before .before .before .before .before .before .before .before .append .ensures .0), c .before .before .before .before .before .before .before .before .before .before .append .ensures .1)
+returns c = (rw (c .before .before .write-triple .ensures, c .before .before .before .appended .ensures, c .before .before .before .before .before .before .before .before .before .before .before .append .ensures .0), c .before .before .before .before .before .before .before .before .before .before .before .append .ensures .1)
 
 pub oracle-append-spec : {M : Type 1} → statement M
 oracle-append-spec =
     tie.close
     (tie.spec
     append-requires
-    answer-with-requires
+    appended-requires
+    write-triple-requires
     same-length
     same-length-2
     same-length-3

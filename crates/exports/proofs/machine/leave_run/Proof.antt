@@ -3,16 +3,16 @@ use Rattle.exports.proofs.machine.leave_run.Statement.{statement}
 use Rattle.exports.proofs.machine.leave_run.Tie as tie
 
 write-state-requires : tie.Need-write-state-requires
-write-state-requires c κs = search needs
+write-state-requires c κs = tt
 
 code-requires : tie.Need-code-requires
-code-requires c κs = search needs
+code-requires c κs = tt
 
 particular-at-requires : tie.Need-particular-at-requires
-particular-at-requires c κs = search needs
+particular-at-requires c κs = tt
 
 write-answer-requires : tie.Need-write-answer-requires
-write-answer-requires c κs = search needs
+write-answer-requires c κs = tt
 
 same-length : tie.Need-same-length
 same-length c = search needs
