@@ -5,7 +5,7 @@ use std::io::Read;
 use std::process::ExitCode;
 use std::time::Instant;
 
-use oracle::bench;
+use oracle::bench::{self, Effort, Subjects};
 use oracle::compare::Comparer;
 use oracle::generate;
 use oracle::inside::{self, InsideComparer};
@@ -13,7 +13,7 @@ use oracle::machine::Mode;
 use oracle::numbers;
 use oracle::programs::printed;
 use oracle::random::Random;
-use oracle::subject::subject;
+use oracle::subject::{subject, Subject};
 use oracle::sweep::{Share, LARGE, SMALL};
 use oracle::vectors;
 use oracle::words::{self, keeps_laws};
@@ -28,7 +28,7 @@ const USAGE: &str = "usage: oracle COMMAND
   vectors FILE            writes the fixed list of the oracle's answers
   lines FILE COUNT [SEED] writes COUNT generated calls in the same form
   replay FILE             replays such a list through the subject
-  bench [ROUNDS [FUEL]]   nanoseconds per instruction, of the published Rust and of the subject
+  bench [ROUNDS [COUNT]]  processor time per instruction and per call, of the published Rust and of the subject
   plain, deferred         prints what the program of that name prints for standard input";
 
 fn main() -> ExitCode {
@@ -205,12 +205,17 @@ fn replay(path: &str) -> bool {
 }
 
 /// False where the subject is slower than the published Rust.
-fn measured(rounds: u64, fuel: u64) -> bool {
-    let (name, subject) = subject();
-    println!("compared with {name}");
-    let least = bench::print(subject, rounds as usize, fuel);
-    println!("\nsmallest ratio {least:.2}");
-    least >= 1.0
+fn measured(rounds: u64, instructions: u64) -> bool {
+    let (name, ours) = subject();
+    println!("ours: {name}");
+    let beside = env::var("ZKIR_BESIDE").ok().map(|path| {
+        // SAFETY: the file is named by who builds the archives; that its answers are the oracle's is tested first.
+        unsafe { bench::Shared::open(&path) }.unwrap_or_else(|| panic!("{path}: no shared object with zkir_run"))
+    });
+    let subjects = Subjects { ours, beside: beside.as_ref().map(|shared| shared as &dyn Subject) };
+    let extremes = bench::print(&subjects, Effort { rounds, instructions });
+    println!("\nsmallest published / ours {:.2}", extremes.least_over_published);
+    extremes.least_over_published >= 1.0
 }
 
 fn print_program(mode: Mode) -> bool {
