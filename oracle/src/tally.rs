@@ -51,6 +51,24 @@ impl Tally {
     }
 }
 
+/// Where a run tells what it met. One that is measured tells nobody, and does no work for it.
+pub trait Told {
+    fn tell(&mut self, note: impl FnOnce(&mut Tally));
+}
+
+impl Told for Tally {
+    fn tell(&mut self, note: impl FnOnce(&mut Tally)) {
+        note(self)
+    }
+}
+
+pub struct Nobody;
+
+impl Told for Nobody {
+    #[inline(always)]
+    fn tell(&mut self, _note: impl FnOnce(&mut Tally)) {}
+}
+
 impl Default for Tally {
     fn default() -> Self {
         Self::new()

@@ -31,24 +31,29 @@ impl Opcode {
         ]
     };
 
+    #[inline]
     pub const fn to_u8(self) -> u8 {
         self as u8
     }
 
     /// "opcode 0 or over 50" is none.
+    #[inline]
     pub fn from_u8(number: u8) -> Option<Opcode> {
         Self::ALL.get((number as usize).wrapping_sub(1)).copied()
     }
 
     /// "Kind S is 37-40, B 41-46, J 47 alone".
+    #[inline]
     pub fn is_store_raw(opcode: u32) -> bool {
         (37..=40).contains(&opcode)
     }
 
+    #[inline]
     pub fn is_branch_raw(opcode: u32) -> bool {
         (41..=46).contains(&opcode)
     }
 
+    #[inline]
     pub fn is_jump_raw(opcode: u32) -> bool {
         opcode == 47
     }
