@@ -9,6 +9,7 @@ use oracle::bench::{self, Effort, Subjects};
 use oracle::compare::Comparer;
 use oracle::generate;
 use oracle::inside::{self, InsideComparer};
+use oracle::interpreter::Interpreter;
 use oracle::machine::Mode;
 use oracle::numbers;
 use oracle::programs::printed;
@@ -18,10 +19,14 @@ use oracle::sweep::{Share, LARGE, SMALL};
 use oracle::vectors;
 use oracle::words::{self, keeps_laws};
 
+/// A subject and what it is called.
+type Named = (&'static str, &'static dyn Subject);
+
 const USAGE: &str = "usage: oracle COMMAND
   published               the published files that were compiled: name, length, hash
   run COUNT [SEED]        compares COUNT generated calls
   sweep [ONE_IN [SEED]]   compares the enumerated calls of one step, or one in so many
+  interpreter [COUNT [ONE_IN [SEED]]] the same two with the interpreter written by hand
   words [COUNT [SEED]]    compares all 2^32 words, or COUNT random ones, and tests the laws of words
   functions [COUNT [SEED]] compares each function of numbers on corners and on COUNT drawn arguments
   inside COUNT [SEED]     compares COUNT generated calls of what the host call does not reach
@@ -37,8 +42,9 @@ fn main() -> ExitCode {
     let seed = |at: usize| number(at).unwrap_or_else(seed_of_the_clock);
     let agreed = match arguments.first().map(String::as_str) {
         Some("published") => published(),
-        Some("run") => run(number(1).unwrap_or(100_000), seed(2)),
-        Some("sweep") => sweep(number(1).unwrap_or(1), seed(2)),
+        Some("run") => run(number(1).unwrap_or(100_000), seed(2), subject()),
+        Some("sweep") => sweep(number(1).unwrap_or(1), seed(2), subject()),
+        Some("interpreter") => by_hand(number(1).unwrap_or(100_000), number(2).unwrap_or(40), seed(3)),
         Some("words") => words(number(1), seed(2)),
         Some("functions") => functions(number(1).unwrap_or(10_000), seed(2)),
         Some("inside") => inside(number(1).unwrap_or(100_000), seed(2)),
@@ -74,9 +80,9 @@ fn published() -> bool {
     true
 }
 
-fn run(count: u64, seed: u64) -> bool {
+fn run(count: u64, seed: u64, named: Named) -> bool {
     println!("{count} generated calls, seed {seed}");
-    compared(|comparer| {
+    compared(named, |comparer| {
         let mut random = Random::seeded(seed);
         for _ in 0..count {
             if !comparer.compare(&generate::any(&mut random)) {
@@ -86,9 +92,9 @@ fn run(count: u64, seed: u64) -> bool {
     })
 }
 
-fn sweep(one_in: u64, seed: u64) -> bool {
+fn sweep(one_in: u64, seed: u64, named: Named) -> bool {
     println!("enumerated calls, one in {one_in} of the large sections, seed {seed}");
-    compared(|comparer| {
+    compared(named, |comparer| {
         let small = SMALL.map(|section| (section, Share::all()));
         let large = LARGE.map(|section| (section, Share::one_in(one_in, seed)));
         for ((name, section), mut share) in small.into_iter().chain(large) {
@@ -101,9 +107,14 @@ fn sweep(one_in: u64, seed: u64) -> bool {
     })
 }
 
+/// Generated and enumerated calls through the interpreter written by hand, whatever the subject is.
+fn by_hand(count: u64, one_in: u64, seed: u64) -> bool {
+    const NAMED: Named = ("the interpreter written by hand", &Interpreter);
+    sweep(one_in, seed, NAMED) && run(count, seed, NAMED)
+}
+
 /// Compares with the subject and prints what was met; false where they differ.
-fn compared(calls: impl FnOnce(&mut Comparer)) -> bool {
-    let (name, subject) = subject();
+fn compared((name, subject): Named, calls: impl FnOnce(&mut Comparer)) -> bool {
     let mut comparer = Comparer::new(subject);
     let started = Instant::now();
     calls(&mut comparer);
@@ -204,7 +215,7 @@ fn replay(path: &str) -> bool {
     replayed.first_wrong_line.is_none()
 }
 
-/// False where the subject is slower than the published Rust.
+/// False where an instruction takes the subject longer than the published Rust.
 fn measured(rounds: u64, instructions: u64) -> bool {
     let (name, ours) = subject();
     println!("ours: {name}");
@@ -214,8 +225,9 @@ fn measured(rounds: u64, instructions: u64) -> bool {
     });
     let subjects = Subjects { ours, beside: beside.as_ref().map(|shared| shared as &dyn Subject) };
     let extremes = bench::print(&subjects, Effort { rounds, instructions });
-    println!("\nsmallest published / ours {:.2}", extremes.least_over_published);
-    extremes.least_over_published >= 1.0
+    println!("\nof the rows per instruction: least published / ours {:.2}", extremes.least_published_by_ours);
+    println!("most ours / by hand {:.2}", extremes.most_ours_by_hand);
+    extremes.least_published_by_ours >= 1.0
 }
 
 fn print_program(mode: Mode) -> bool {

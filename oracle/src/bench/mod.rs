@@ -6,6 +6,7 @@ mod row;
 mod shared;
 mod workloads;
 
+use crate::interpreter::Interpreter;
 use crate::subject::{Oracle, Subject};
 
 pub use row::{rows, Pace, Row};
@@ -21,32 +22,38 @@ pub struct Effort {
     pub instructions: u64,
 }
 
-/// The subjects of a table: the published Rust, ours, and where one is given another build of ours.
+/// The subjects of a table besides the published Rust and the interpreter written by hand.
 pub struct Subjects<'s> {
     pub ours: &'s dyn Subject,
+    /// Another build of ours.
     pub beside: Option<&'s dyn Subject>,
 }
 
-/// The extreme ratios over all rows.
-pub struct Extremes {
-    pub least_over_published: f64,
+/// What a row took, in nanoseconds.
+struct Times {
+    published: f64,
+    by_hand: f64,
+    ours: f64,
+    beside: Option<f64>,
 }
 
-impl<'s> Subjects<'s> {
-    fn in_turn(&self) -> Vec<&'s dyn Subject> {
-        let always: [&dyn Subject; 2] = [&Oracle, self.ours];
-        always.into_iter().chain(self.beside).collect()
-    }
+/// The extreme ratios over the rows that count instructions.
+pub struct Extremes {
+    pub least_published_by_ours: f64,
+    pub most_ours_by_hand: f64,
 }
 
 /// Prints a table in Markdown, a line as soon as its row is measured.
 pub fn print(subjects: &Subjects, effort: Effort) -> Extremes {
     print_head(subjects.beside.is_some(), effort);
-    let mut extremes = Extremes { least_over_published: f64::INFINITY };
+    let mut extremes = Extremes { least_published_by_ours: f64::INFINITY, most_ours_by_hand: 0.0 };
     for row in rows() {
-        let times = least_times(&row, &subjects.in_turn(), effort);
+        let times = measured(&row, subjects, effort);
         print_row(&row, &times);
-        extremes.least_over_published = extremes.least_over_published.min(times[0] / times[1]);
+        if let Pace::OneRun = row.pace {
+            extremes.least_published_by_ours = extremes.least_published_by_ours.min(times.published / times.ours);
+            extremes.most_ours_by_hand = extremes.most_ours_by_hand.max(times.ours / times.by_hand);
+        }
     }
     extremes
 }
@@ -56,24 +63,25 @@ fn print_head(beside: bool, effort: Effort) {
         "least of {} rounds of {} instructions, processor time of the thread\n",
         effort.rounds, effort.instructions
     );
-    println!(
-        "| Workload | Mode | ns per | Published Rust | Ours | Published / ours |{}",
-        if beside { " Beside | Ours / beside |" } else { "" }
-    );
-    println!("|---|---|---|---|---|---|{}", if beside { "---|---|" } else { "" });
+    print!("| Workload | Mode | ns per | Published Rust | By hand | Ours | Published / ours | Ours / by hand |");
+    println!("{}", if beside { " Beside | Ours / beside |" } else { "" });
+    println!("|---|---|---|---|---|---|---|---|{}", if beside { "---|---|" } else { "" });
 }
 
-fn print_row(row: &Row, times: &[f64]) {
-    let unit = match row.pace {
-        Pace::OneRun => "instruction",
-        Pace::CallsOf { .. } => "call",
-    };
-    let [published, ours] = [times[0], times[1]];
-    print!("| {} | {:?} | {unit} | {published:.1} | {ours:.1} | {:.2} |", row.name, row.mode, published / ours);
-    if let Some(beside) = times.get(2) {
+fn print_row(row: &Row, times: &Times) {
+    let Times { published, by_hand, ours, beside } = times;
+    print!("| {} | {:?} | {} |", row.name, row.mode, row.pace.unit());
+    print!(" {published:.1} | {by_hand:.1} | {ours:.1} | {:.2} | {:.2} |", published / ours, ours / by_hand);
+    if let Some(beside) = beside {
         print!(" {beside:.1} | {:.2} |", ours / beside);
     }
     println!();
+}
+
+fn measured(row: &Row, subjects: &Subjects, effort: Effort) -> Times {
+    let always: [&dyn Subject; 3] = [&Oracle, &Interpreter, subjects.ours];
+    let least = least_times(row, &always.into_iter().chain(subjects.beside).collect::<Vec<_>>(), effort);
+    Times { published: least[0], by_hand: least[1], ours: least[2], beside: least.get(3).copied() }
 }
 
 fn least_times(row: &Row, subjects: &[&dyn Subject], effort: Effort) -> Vec<f64> {

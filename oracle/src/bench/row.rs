@@ -21,6 +21,15 @@ pub enum Pace {
     CallsOf { fuel: u64 },
 }
 
+impl Pace {
+    pub fn unit(self) -> &'static str {
+        match self {
+            Pace::OneRun => "instruction",
+            Pace::CallsOf { .. } => "call",
+        }
+    }
+}
+
 pub struct Row {
     pub name: String,
     pub mode: Mode,
