@@ -5,7 +5,6 @@ use std::io::Read;
 use std::process::ExitCode;
 use std::time::Instant;
 
-use oracle::bench::{self, Effort, Subjects};
 use oracle::compare::Comparer;
 use oracle::generate;
 use oracle::inside::{self, InsideComparer};
@@ -33,7 +32,6 @@ const USAGE: &str = "usage: oracle COMMAND
   vectors FILE            writes the fixed list of the oracle's answers
   lines FILE COUNT [SEED] writes COUNT generated calls in the same form
   replay FILE             replays such a list through the subject
-  bench [ROUNDS [COUNT]]  processor time per instruction and per call, of the published Rust and of the subject
   plain, deferred         prints what the program of that name prints for standard input";
 
 fn main() -> ExitCode {
@@ -53,7 +51,6 @@ fn main() -> ExitCode {
             write_lines(&arguments[1], vectors::generated_file(number(2).unwrap_or(0), seed(3)))
         }
         Some("replay") if arguments.len() == 2 => replay(&arguments[1]),
-        Some("bench") => measured(number(1).unwrap_or(7), number(2).unwrap_or(5_000_000)),
         Some("plain") => print_program(Mode::Plain),
         Some("deferred") => print_program(Mode::Deferred),
         _ => {
@@ -213,21 +210,6 @@ fn replay(path: &str) -> bool {
         Some(line) => println!("{path}:{line}: {name} leaves something else"),
     }
     replayed.first_wrong_line.is_none()
-}
-
-/// False where an instruction takes the subject longer than the published Rust.
-fn measured(rounds: u64, instructions: u64) -> bool {
-    let (name, ours) = subject();
-    println!("ours: {name}");
-    let beside = env::var("ZKIR_BESIDE").ok().map(|path| {
-        // SAFETY: the file is named by who builds the archives; that its answers are the oracle's is tested first.
-        unsafe { bench::Shared::open(&path) }.unwrap_or_else(|| panic!("{path}: no shared object with zkir_run"))
-    });
-    let subjects = Subjects { ours, beside: beside.as_ref().map(|shared| shared as &dyn Subject) };
-    let extremes = bench::print(&subjects, Effort { rounds, instructions });
-    println!("\nof the rows per instruction: least published / ours {:.2}", extremes.least_published_by_ours);
-    println!("most ours / by hand {:.2}", extremes.most_ours_by_hand);
-    extremes.least_published_by_ours >= 1.0
 }
 
 fn print_program(mode: Mode) -> bool {

@@ -43,6 +43,7 @@ macro_rules! instructions {
                 }
             }
 
+            #[inline(always)]
             pub fn operands(&self) -> Operands {
                 match *self {
                     $($(Self::$name $bound => Operands::$shape $bound,)*)*
@@ -81,7 +82,7 @@ instructions! {
 
 impl Instruction {
     /// rd, if the instruction has one.
-    #[inline]
+    #[inline(always)]
     pub fn destination(&self) -> Option<Register> {
         match self.operands() {
             Operands::R { rd, .. } | Operands::I { rd, .. } | Operands::Shift { rd, .. } | Operands::J { rd, .. } => {
@@ -92,7 +93,7 @@ impl Instruction {
     }
 
     /// rs1 and rs2, as far as the instruction has them.
-    #[inline]
+    #[inline(always)]
     pub fn sources(&self) -> [Option<Register>; 2] {
         match self.operands() {
             Operands::R { rs1, rs2, .. } | Operands::S { rs1, rs2, .. } | Operands::B { rs1, rs2, .. } => {
