@@ -59,7 +59,10 @@ impl<T: Told> Machine<'_, T> {
     /// A single step. "A step tests 9, 6, 7, 4, 5, then 1, or 3 and 2, then 8." It ignores the halt mark.
     pub fn step(&mut self, mode: Mode) -> Result<Onward, Refusal> {
         self.test_well_formed(mode)?;
-        self.advance(mode)
+        match mode {
+            Mode::Plain => self.advance::<false, true>(),
+            Mode::Deferred => self.advance::<true, true>(),
+        }
     }
 
     /// Executes one given instruction: it "skips 6, 7, 4 and 5 and refuses (9) an instruction that the encoder refuses".
@@ -72,7 +75,10 @@ impl<T: Told> Machine<'_, T> {
                 return Ok(self.completed(instruction, mode));
             }
         }
-        self.perform(instruction, mode)
+        match mode {
+            Mode::Plain => self.perform::<false, true>(instruction),
+            Mode::Deferred => self.perform::<true, true>(instruction),
+        }
     }
 
     /// "A plain step or run given an accumulated register is refused (9)."
@@ -84,15 +90,16 @@ impl<T: Told> Machine<'_, T> {
         Err(Refusal::Malformed)
     }
 
-    /// A step of a machine that is known to be well formed; it stays so.
+    /// A step of a machine that is known to be well formed; it stays so. The mode, and whether a list may be lent, are
+    /// settled before a run, so that no step of it tests them.
     #[inline]
-    pub fn advance(&mut self, mode: Mode) -> Result<Onward, Refusal> {
+    pub fn advance<const DEFERRED: bool, const LISTING: bool>(&mut self) -> Result<Onward, Refusal> {
         let word = self.fetch()?;
         let instruction = decode(word).map_err(|reason| match reason {
             Undecodable::Opcode => Refusal::Opcode { word },
             Undecodable::Operands => Refusal::Operands { word },
         })?;
-        self.perform(&instruction, mode)
+        self.perform::<DEFERRED, LISTING>(&instruction)
     }
 
     /// "pc not a multiple of 4" (6), then "pc + 4 beyond memory, in whole numbers" (7).
@@ -105,31 +112,43 @@ impl<T: Told> Machine<'_, T> {
         })
     }
 
-    /// "A refused step restores even normalised sources." The text refuses 1, 2 and 3 before it writes anything; a check
-    /// that finds the list full comes last.
+    /// "In a deferred run every other instruction first normalises its rs1, then rs2, as
+    /// far as it has them".
     #[inline]
-    fn perform(&mut self, instruction: &Instruction, mode: Mode) -> Result<Onward, Refusal> {
-        if mode == Mode::Deferred && self.on_limbs(instruction) {
-            return Ok(self.completed(instruction, mode));
+    fn perform<const DEFERRED: bool, const LISTING: bool>(
+        &mut self,
+        instruction: &Instruction,
+    ) -> Result<Onward, Refusal> {
+        if DEFERRED && has_limb_form(instruction) && self.on_limbs(instruction) {
+            return Ok(self.completed(instruction, Mode::Deferred));
+        }
+        if DEFERRED && self.has_accumulated_sources(instruction) {
+            self.settled_first::<LISTING>(instruction)?;
+        } else {
+            self.by_the_text::<LISTING>(instruction)?;
+        }
+        Ok(self.completed(instruction, if DEFERRED { Mode::Deferred } else { Mode::Plain }))
+    }
+
+    /// "A refused step restores even normalised sources."
+    fn settled_first<const LISTING: bool>(&mut self, instruction: &Instruction) -> Result<(), Refusal> {
+        let settled = self.settle_sources(instruction);
+        self.by_the_text::<LISTING>(instruction).inspect_err(|_| self.unsettle(settled))
+    }
+
+    /// The text refuses 1, 2 and 3 before it writes anything; a check that finds the list full comes last, and is undone.
+    #[inline]
+    fn by_the_text<const LISTING: bool>(&mut self, instruction: &Instruction) -> Result<(), Refusal> {
+        if !LISTING {
+            return Ok(execute(instruction, &mut self.state, &mut self.memory, None)?);
         }
         let before = self.before(instruction);
-        let settled = match mode {
-            Mode::Plain => [None; 2],
-            Mode::Deferred => self.settle_sources(instruction),
-        };
-        let listed_before = self.lists.count;
-        if let Err(refused) = execute(instruction, &mut self.state, &mut self.memory, lent(&mut self.lists)) {
-            self.unsettle(settled);
-            return Err(refused.into());
-        }
+        execute(instruction, &mut self.state, &mut self.memory, lent(&mut self.lists))?;
         if self.lists.take_found_full() {
             self.restore(&before);
-            self.unsettle(settled);
             return Err(Refusal::ListFull { pc: before.pc });
         }
-        let listed = self.lists.count - listed_before;
-        self.tally.tell(|tally| tally.listed += listed as u64);
-        Ok(self.completed(instruction, mode))
+        Ok(())
     }
 
     #[inline]
@@ -142,12 +161,10 @@ impl<T: Told> Machine<'_, T> {
         }
     }
 
-    /// Only where a list is lent can it be full.
     #[inline]
     fn before(&self, instruction: &Instruction) -> Before {
         let kept = |register| (register, self.state.register_states.get(register), self.state.read_bound(register));
-        let destination = if self.lists.is_lent() { instruction.destination().map(kept) } else { None };
-        Before { pc: self.state.pc, destination }
+        Before { pc: self.state.pc, destination: instruction.destination().map(kept) }
     }
 
     fn restore(&mut self, before: &Before) {
@@ -173,8 +190,7 @@ impl<T: Told> Machine<'_, T> {
         self.state.pc = target;
     }
 
-    /// Add, Addi and Sub have limb forms; false where the instruction has none, or is a Sub that borrows.
-    #[inline]
+    /// False where it is a Sub that borrows, which is done plainly.
     fn on_limbs(&mut self, instruction: &Instruction) -> bool {
         match *instruction {
             Instruction::Add { rd, rs1, rs2 } => {
@@ -185,10 +201,14 @@ impl<T: Told> Machine<'_, T> {
                 self.tell_forced(rs1, |_| [imm as u64 % (1 << 20), (imm as u64 >> 20) % (1 << 20)]);
                 execute_addi_deferred(&mut self.state, rd, rs1, imm as u64, &CONFIG, lent(&mut self.lists));
             }
-            Instruction::Sub { rd, rs1, rs2 } if !self.borrows(rs1, rs2) => {
+            Instruction::Sub { rd, rs1, rs2 } => {
+                if self.borrows(rs1, rs2) {
+                    self.tally.tell(|tally| tally.borrows += 1);
+                    return false;
+                }
                 execute_sub_deferred(&mut self.state, rd, rs1, rs2, &CONFIG, lent(&mut self.lists));
             }
-            _ => return false,
+            _ => unreachable!("the other instructions have no limb form"),
         }
         true
     }
@@ -200,19 +220,24 @@ impl<T: Told> Machine<'_, T> {
         a[0] < b[0] || a[1] < b[1]
     }
 
-    /// "In a deferred run every other instruction first normalises its rs1, then rs2, as far as it has them; Ecall
-    /// normalises R1 to R15; Ebreak none." A Sub that borrows: "both sources are normalised and the plain Sub is done."
     #[inline]
+    fn has_accumulated_sources(&self, instruction: &Instruction) -> bool {
+        let accumulated = |register| self.state.register_states.get(register).needs_normalization();
+        match instruction {
+            Instruction::Ecall => !self.state.all_whole(),
+            _ => instruction.sources().into_iter().flatten().any(accumulated),
+        }
+    }
+
+    /// "Ecall normalises R1 to R15; Ebreak none." A Sub that borrows: "both sources are normalised and the plain Sub is
+    /// done."
     fn settle_sources(&mut self, instruction: &Instruction) -> Settled {
         match instruction {
             Instruction::Ecall => {
                 (1..16).for_each(|number| _ = self.settle(Register(number)));
                 [None; 2]
             }
-            Instruction::Sub { rs1, rs2, .. } => {
-                self.tally.tell(|tally| tally.borrows += 1);
-                [*rs1, *rs2].map(|source| normalised_limbs(&mut self.state, source))
-            }
+            Instruction::Sub { rs1, rs2, .. } => [*rs1, *rs2].map(|source| normalised_limbs(&mut self.state, source)),
             _ => instruction.sources().map(|source| source.and_then(|register| self.settle(register))),
         }
     }
@@ -238,6 +263,12 @@ impl<T: Told> Machine<'_, T> {
             tally.forced += VMState::would_overflow([a[0] + b[0], a[1] + b[1]], LIMB_BITS) as u64;
         });
     }
+}
+
+/// "Add, Sub, Addi on limbs".
+#[inline]
+fn has_limb_form(instruction: &Instruction) -> bool {
+    matches!(instruction, Instruction::Add { .. } | Instruction::Sub { .. } | Instruction::Addi { .. })
 }
 
 #[inline]

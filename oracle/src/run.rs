@@ -21,9 +21,18 @@ impl<T: Told> Machine<'_, T> {
         if self.state.halted {
             return Ran { stop: Stop::Ebreak, steps: 0 };
         }
+        match (mode, self.lists.is_lent()) {
+            (Mode::Plain, false) => self.go::<false, false>(fuel),
+            (Mode::Plain, true) => self.go::<false, true>(fuel),
+            (Mode::Deferred, false) => self.go::<true, false>(fuel),
+            (Mode::Deferred, true) => self.go::<true, true>(fuel),
+        }
+    }
+
+    fn go<const DEFERRED: bool, const LISTING: bool>(&mut self, fuel: u64) -> Ran {
         let mut steps = 0;
         while steps < fuel {
-            match self.advance(mode) {
+            match self.advance::<DEFERRED, LISTING>() {
                 Ok(Onward::Next) => steps += 1,
                 Ok(Onward::Ebreak) => return Ran { stop: Stop::Ebreak, steps: steps + 1 },
                 Ok(Onward::Ecall) => return Ran { stop: Stop::Ecall, steps: steps + 1 },
