@@ -9,7 +9,7 @@ use zkir_runtime::state::{Held, VMState};
 use zkir_spec::{decode, encode, Instruction, Register, Undecodable, ValueBound};
 
 use crate::refusal::Refusal;
-use crate::tally::{Tally, Told};
+use crate::tally::{Counting, Tally};
 
 const NORMALIZED_BITS: u8 = 20;
 const LIMB_BITS: u8 = 30;
@@ -39,7 +39,7 @@ pub enum Onward {
 }
 
 /// A state with the memory and the lists lent to it.
-pub struct Machine<'a, T: Told = Tally> {
+pub struct Machine<'a, T: Counting = Tally> {
     pub state: VMState,
     pub memory: Memory<'a>,
     pub lists: RangeCheckTracker<'a>,
@@ -55,7 +55,7 @@ struct Before {
 /// The sources that were normalised, with the limbs that they had.
 type Settled = [Option<(Register, [u64; 2])>; 2];
 
-impl<T: Told> Machine<'_, T> {
+impl<T: Counting> Machine<'_, T> {
     /// A single step. "A step tests 9, 6, 7, 4, 5, then 1, or 3 and 2, then 8." It ignores the halt mark.
     pub fn step(&mut self, mode: Mode) -> Result<Onward, Refusal> {
         self.test_well_formed(mode)?;
@@ -112,8 +112,8 @@ impl<T: Told> Machine<'_, T> {
         })
     }
 
-    /// "In a deferred run every other instruction first normalises its rs1, then rs2, as
-    /// far as it has them".
+    /// "In a deferred run every other instruction [but the limb forms] first normalises its rs1, then rs2, as far as it has
+    /// them".
     #[inline]
     fn perform<const DEFERRED: bool, const LISTING: bool>(
         &mut self,
@@ -153,7 +153,7 @@ impl<T: Told> Machine<'_, T> {
 
     #[inline]
     fn completed(&mut self, instruction: &Instruction, mode: Mode) -> Onward {
-        self.tally.tell(|tally| tally.count_completed(instruction.opcode(), mode));
+        self.tally.count(|tally| tally.count_completed(instruction.opcode(), mode));
         match instruction {
             Instruction::Ecall => Onward::Ecall,
             Instruction::Ebreak => Onward::Ebreak,
@@ -194,16 +194,16 @@ impl<T: Told> Machine<'_, T> {
     fn on_limbs(&mut self, instruction: &Instruction) -> bool {
         match *instruction {
             Instruction::Add { rd, rs1, rs2 } => {
-                self.tell_forced(rs1, |state| limbs(state, rs2));
+                self.count_forced(rs1, |state| limbs(state, rs2));
                 execute_add_deferred(&mut self.state, rd, rs1, rs2, &CONFIG, lent(&mut self.lists));
             }
             Instruction::Addi { rd, rs1, imm } => {
-                self.tell_forced(rs1, |_| [imm as u64 % (1 << 20), (imm as u64 >> 20) % (1 << 20)]);
+                self.count_forced(rs1, |_| [imm as u64 % (1 << 20), (imm as u64 >> 20) % (1 << 20)]);
                 execute_addi_deferred(&mut self.state, rd, rs1, imm as u64, &CONFIG, lent(&mut self.lists));
             }
             Instruction::Sub { rd, rs1, rs2 } => {
                 if self.borrows(rs1, rs2) {
-                    self.tally.tell(|tally| tally.borrows += 1);
+                    self.tally.count(|tally| tally.borrows += 1);
                     return false;
                 }
                 execute_sub_deferred(&mut self.state, rd, rs1, rs2, &CONFIG, lent(&mut self.lists));
@@ -245,7 +245,7 @@ impl<T: Told> Machine<'_, T> {
     #[inline]
     fn settle(&mut self, register: Register) -> Option<(Register, [u64; 2])> {
         let settled = normalised_limbs(&mut self.state, register);
-        self.tally.tell(|tally| tally.settled += settled.is_some() as u64);
+        self.tally.count(|tally| tally.settled += settled.is_some() as u64);
         settled
     }
 
@@ -256,9 +256,9 @@ impl<T: Told> Machine<'_, T> {
     }
 
     #[inline]
-    fn tell_forced(&mut self, rs1: Register, other: impl FnOnce(&VMState) -> [u64; 2]) {
+    fn count_forced(&mut self, rs1: Register, other: impl FnOnce(&VMState) -> [u64; 2]) {
         let state = &self.state;
-        self.tally.tell(|tally| {
+        self.tally.count(|tally| {
             let (a, b) = (limbs(state, rs1), other(state));
             tally.forced += VMState::would_overflow([a[0] + b[0], a[1] + b[1]], LIMB_BITS) as u64;
         });

@@ -2,7 +2,7 @@
 
 use crate::machine::{Machine, Mode, Onward};
 use crate::refusal::Stop;
-use crate::tally::Told;
+use crate::tally::Counting;
 
 /// "The answer counts completed instructions, never more than the fuel".
 #[derive(Clone, Copy, Debug, PartialEq, Eq)]
@@ -11,7 +11,7 @@ pub struct Ran {
     pub steps: u64,
 }
 
-impl<T: Told> Machine<'_, T> {
+impl<T: Counting> Machine<'_, T> {
     /// "A run tests 9 first; then a halted state answers Ebreak at 0 steps, before fuel is looked at." "Ebreak and Ecall
     /// count, a refused one doesn't."
     pub fn run(&mut self, fuel: u64, mode: Mode) -> Ran {

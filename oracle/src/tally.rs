@@ -51,22 +51,22 @@ impl Tally {
     }
 }
 
-/// Where a run tells what it met. One that is measured tells nobody, and does no work for it.
-pub trait Told {
-    fn tell(&mut self, note: impl FnOnce(&mut Tally));
+/// Where a run counts what it meets. One that is measured counts nothing, and does no work for it.
+pub trait Counting {
+    fn count(&mut self, note: impl FnOnce(&mut Tally));
 }
 
-impl Told for Tally {
-    fn tell(&mut self, note: impl FnOnce(&mut Tally)) {
+impl Counting for Tally {
+    fn count(&mut self, note: impl FnOnce(&mut Tally)) {
         note(self)
     }
 }
 
-pub struct Nobody;
+pub struct Uncounted;
 
-impl Told for Nobody {
+impl Counting for Uncounted {
     #[inline(always)]
-    fn tell(&mut self, _note: impl FnOnce(&mut Tally)) {}
+    fn count(&mut self, _note: impl FnOnce(&mut Tally)) {}
 }
 
 impl Default for Tally {
