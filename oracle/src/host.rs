@@ -6,11 +6,11 @@ use zkir_runtime::range_check::RangeCheckTracker;
 use crate::layout::{read_state, write_answer, write_state, ANSWER_BYTES};
 use crate::machine::{Machine, Mode};
 use crate::refusal::{Refusal, Stop};
-use crate::tally::Tally;
+use crate::tally::{Counting, Tally, Uncounted};
 
 /// The oracle's `zkir_run`.
 pub fn oracle_run(state: &mut [u8], memory: &mut [u8], answer: &mut [u8], fuel: u64, mode: u64) -> u64 {
-    tallied_run(state, memory, answer, fuel, mode, &mut Tally::new())
+    answered_run(state, memory, answer, fuel, mode, &mut Uncounted)
 }
 
 /// The same, and what it met is added to the tally.
@@ -22,11 +22,23 @@ pub fn tallied_run(
     mode: u64,
     tally: &mut Tally,
 ) -> u64 {
+    let code = answered_run(state, memory, answer, fuel, mode, tally);
+    tally.count_stop(code);
+    code
+}
+
+fn answered_run(
+    state: &mut [u8],
+    memory: &mut [u8],
+    answer: &mut [u8],
+    fuel: u64,
+    mode: u64,
+    tally: &mut impl Counting,
+) -> u64 {
     let (stop, steps) = judged_run(state, memory, answer.len(), fuel, mode, tally);
     if answer.len() == ANSWER_BYTES {
         write_answer(answer, [stop.code(), steps, stop.particular()]);
     }
-    tally.count_stop(stop.code());
     stop.code()
 }
 
@@ -37,7 +49,7 @@ fn judged_run(
     answer_length: usize,
     fuel: u64,
     mode: u64,
-    tally: &mut Tally,
+    tally: &mut impl Counting,
 ) -> (Stop, u64) {
     const MALFORMED: (Stop, u64) = (Stop::Refused(Refusal::Malformed), 0);
     let (Some(mode), Some(read), ANSWER_BYTES) = (Mode::from_number(mode), read_state(state), answer_length) else {

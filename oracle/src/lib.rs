@@ -10,6 +10,7 @@ pub mod exported;
 pub mod generate;
 pub mod host;
 pub mod inside;
+pub mod interpreter;
 pub mod layout;
 pub mod listed;
 pub mod machine;

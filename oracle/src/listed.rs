@@ -41,6 +41,7 @@ impl ListedCase {
         };
         let ran = machine.run(fuel, mode);
         let count = machine.lists.count;
+        machine.tally.listed += (count - self.count) as u64;
         write_state(&machine.state, &mut state);
         write_answer(&mut answer, [ran.stop.code(), ran.steps, ran.stop.particular()]);
         let appended = (self.count..count).map(|at| [values[at], bounds[at], pcs[at]]).collect();

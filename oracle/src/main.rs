@@ -5,30 +5,33 @@ use std::io::Read;
 use std::process::ExitCode;
 use std::time::Instant;
 
-use oracle::bench;
 use oracle::compare::Comparer;
 use oracle::generate;
 use oracle::inside::{self, InsideComparer};
+use oracle::interpreter::Interpreter;
 use oracle::machine::Mode;
 use oracle::numbers;
 use oracle::programs::printed;
 use oracle::random::Random;
-use oracle::subject::subject;
+use oracle::subject::{subject, Subject};
 use oracle::sweep::{Share, LARGE, SMALL};
 use oracle::vectors;
 use oracle::words::{self, keeps_laws};
+
+/// A subject and what it is called.
+type Named = (&'static str, &'static dyn Subject);
 
 const USAGE: &str = "usage: oracle COMMAND
   published               the published files that were compiled: name, length, hash
   run COUNT [SEED]        compares COUNT generated calls
   sweep [ONE_IN [SEED]]   compares the enumerated calls of one step, or one in so many
+  interpreter [COUNT [ONE_IN [SEED]]] the same two with the interpreter written by hand
   words [COUNT [SEED]]    compares all 2^32 words, or COUNT random ones, and tests the laws of words
   functions [COUNT [SEED]] compares each function of numbers on corners and on COUNT drawn arguments
   inside COUNT [SEED]     compares COUNT generated calls of what the host call does not reach
   vectors FILE            writes the fixed list of the oracle's answers
   lines FILE COUNT [SEED] writes COUNT generated calls in the same form
   replay FILE             replays such a list through the subject
-  bench [ROUNDS [FUEL]]   nanoseconds per instruction, of the published Rust and of the subject
   plain, deferred         prints what the program of that name prints for standard input";
 
 fn main() -> ExitCode {
@@ -37,8 +40,9 @@ fn main() -> ExitCode {
     let seed = |at: usize| number(at).unwrap_or_else(seed_of_the_clock);
     let agreed = match arguments.first().map(String::as_str) {
         Some("published") => published(),
-        Some("run") => run(number(1).unwrap_or(100_000), seed(2)),
-        Some("sweep") => sweep(number(1).unwrap_or(1), seed(2)),
+        Some("run") => run(number(1).unwrap_or(100_000), seed(2), subject()),
+        Some("sweep") => sweep(number(1).unwrap_or(1), seed(2), subject()),
+        Some("interpreter") => by_hand(number(1).unwrap_or(100_000), number(2).unwrap_or(40), seed(3)),
         Some("words") => words(number(1), seed(2)),
         Some("functions") => functions(number(1).unwrap_or(10_000), seed(2)),
         Some("inside") => inside(number(1).unwrap_or(100_000), seed(2)),
@@ -47,7 +51,6 @@ fn main() -> ExitCode {
             write_lines(&arguments[1], vectors::generated_file(number(2).unwrap_or(0), seed(3)))
         }
         Some("replay") if arguments.len() == 2 => replay(&arguments[1]),
-        Some("bench") => measured(number(1).unwrap_or(7), number(2).unwrap_or(5_000_000)),
         Some("plain") => print_program(Mode::Plain),
         Some("deferred") => print_program(Mode::Deferred),
         _ => {
@@ -74,9 +77,9 @@ fn published() -> bool {
     true
 }
 
-fn run(count: u64, seed: u64) -> bool {
+fn run(count: u64, seed: u64, named: Named) -> bool {
     println!("{count} generated calls, seed {seed}");
-    compared(|comparer| {
+    compared(named, |comparer| {
         let mut random = Random::seeded(seed);
         for _ in 0..count {
             if !comparer.compare(&generate::any(&mut random)) {
@@ -86,9 +89,9 @@ fn run(count: u64, seed: u64) -> bool {
     })
 }
 
-fn sweep(one_in: u64, seed: u64) -> bool {
+fn sweep(one_in: u64, seed: u64, named: Named) -> bool {
     println!("enumerated calls, one in {one_in} of the large sections, seed {seed}");
-    compared(|comparer| {
+    compared(named, |comparer| {
         let small = SMALL.map(|section| (section, Share::all()));
         let large = LARGE.map(|section| (section, Share::one_in(one_in, seed)));
         for ((name, section), mut share) in small.into_iter().chain(large) {
@@ -101,9 +104,14 @@ fn sweep(one_in: u64, seed: u64) -> bool {
     })
 }
 
+/// Generated and enumerated calls through the interpreter written by hand, whatever the subject is.
+fn by_hand(count: u64, one_in: u64, seed: u64) -> bool {
+    const NAMED: Named = ("the interpreter written by hand", &Interpreter);
+    sweep(one_in, seed, NAMED) && run(count, seed, NAMED)
+}
+
 /// Compares with the subject and prints what was met; false where they differ.
-fn compared(calls: impl FnOnce(&mut Comparer)) -> bool {
-    let (name, subject) = subject();
+fn compared((name, subject): Named, calls: impl FnOnce(&mut Comparer)) -> bool {
     let mut comparer = Comparer::new(subject);
     let started = Instant::now();
     calls(&mut comparer);
@@ -202,15 +210,6 @@ fn replay(path: &str) -> bool {
         Some(line) => println!("{path}:{line}: {name} leaves something else"),
     }
     replayed.first_wrong_line.is_none()
-}
-
-/// False where the subject is slower than the published Rust.
-fn measured(rounds: u64, fuel: u64) -> bool {
-    let (name, subject) = subject();
-    println!("compared with {name}");
-    let least = bench::print(subject, rounds as usize, fuel);
-    println!("\nsmallest ratio {least:.2}");
-    least >= 1.0
 }
 
 fn print_program(mode: Mode) -> bool {

@@ -51,6 +51,24 @@ impl Tally {
     }
 }
 
+/// Where a run counts what it meets. One that is measured counts nothing, and does no work for it.
+pub trait Counting {
+    fn count(&mut self, note: impl FnOnce(&mut Tally));
+}
+
+impl Counting for Tally {
+    fn count(&mut self, note: impl FnOnce(&mut Tally)) {
+        note(self)
+    }
+}
+
+pub struct Uncounted;
+
+impl Counting for Uncounted {
+    #[inline(always)]
+    fn count(&mut self, _note: impl FnOnce(&mut Tally)) {}
+}
+
 impl Default for Tally {
     fn default() -> Self {
         Self::new()

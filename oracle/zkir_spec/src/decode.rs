@@ -11,28 +11,60 @@ pub enum Undecodable {
 }
 
 /// The instruction of a word. "So each instruction has one word."
+#[inline(always)]
 pub fn decode(word: u32) -> Result<Instruction, Undecodable> {
     let opcode = Opcode::from_u8(extract_opcode(word) as u8).ok_or(Undecodable::Opcode)?;
-    let operands = operands(opcode, word).ok_or(Undecodable::Operands)?;
-    Ok(Instruction::from_parts(opcode, operands).expect("the operands are read by the opcode's shape"))
+    Instruction::read(opcode, word).ok_or(Undecodable::Operands)
 }
 
-/// "A nonzero funct, a shift amount over 63, or an Ecall or Ebreak with bits 7-31 not zero is refused (5)."
-fn operands(opcode: Opcode, word: u32) -> Option<Operands> {
-    let register = |number: u32| Register(number as u8);
-    let (rd, rs1) = (register(extract_rd(word)), register(extract_rs1(word)));
-    let (store_rs1, store_rs2) = (register(extract_stype_rs1(word)), register(extract_stype_rs2(word)));
-    let imm = extract_imm_signed(word) as i64;
-    match opcode {
-        Opcode::Ecall | Opcode::Ebreak => (word >> RD_SHIFT == 0).then_some(Operands::Alone),
-        Opcode::Slli | Opcode::Srli | Opcode::Srai => {
-            let shamt = extract_imm(word) as u64;
-            (shamt <= 63).then_some(Operands::Shift { rd, rs1, shamt })
-        }
-        _ if is_itype(word) => Some(Operands::I { rd, rs1, imm }),
-        _ if is_stype(word) => Some(Operands::S { rs1: store_rs1, rs2: store_rs2, imm }),
-        _ if is_btype(word) => Some(Operands::B { rs1: store_rs1, rs2: store_rs2, offset: imm }),
-        _ if is_jtype(word) => Some(Operands::J { rd, offset: extract_offset_signed(word) as i64 }),
-        _ => (extract_funct(word) == 0).then_some(Operands::R { rd, rs1, rs2: register(extract_rs2(word)) }),
-    }
+#[inline]
+fn register(number: u32) -> Register {
+    Register(number as u8)
+}
+
+/// "R: rd 7-10, rs1 11-14, rs2 15-18, funct 19-31." "A nonzero funct [...] is refused (5)."
+#[inline(always)]
+pub(crate) fn three_registers(word: u32) -> Option<Operands> {
+    let [rd, rs1, rs2] = [extract_rd(word), extract_rs1(word), extract_rs2(word)].map(register);
+    (extract_funct(word) == 0).then_some(Operands::R { rd, rs1, rs2 })
+}
+
+/// "I: rd, rs1, immediate 15-31."
+#[inline(always)]
+pub(crate) fn immediate(word: u32) -> Option<Operands> {
+    let [rd, rs1] = [extract_rd(word), extract_rs1(word)].map(register);
+    Some(Operands::I { rd, rs1, imm: extract_imm_signed(word) as i64 })
+}
+
+/// "a shift amount over 63 [...] is refused (5)."
+#[inline(always)]
+pub(crate) fn shift_amount(word: u32) -> Option<Operands> {
+    let [rd, rs1] = [extract_rd(word), extract_rs1(word)].map(register);
+    let shamt = extract_imm(word) as u64;
+    (shamt <= 63).then_some(Operands::Shift { rd, rs1, shamt })
+}
+
+/// "S and B: rs1 at 7-10, rs2 at 11-14, immediate 15-31."
+#[inline(always)]
+pub(crate) fn store(word: u32) -> Option<Operands> {
+    let [rs1, rs2] = [extract_stype_rs1(word), extract_stype_rs2(word)].map(register);
+    Some(Operands::S { rs1, rs2, imm: extract_imm_signed(word) as i64 })
+}
+
+#[inline(always)]
+pub(crate) fn branch(word: u32) -> Option<Operands> {
+    let [rs1, rs2] = [extract_stype_rs1(word), extract_stype_rs2(word)].map(register);
+    Some(Operands::B { rs1, rs2, offset: extract_imm_signed(word) as i64 })
+}
+
+/// "J: rd, offset 11-31."
+#[inline(always)]
+pub(crate) fn jump(word: u32) -> Option<Operands> {
+    Some(Operands::J { rd: register(extract_rd(word)), offset: extract_offset_signed(word) as i64 })
+}
+
+/// "an Ecall or Ebreak with bits 7-31 not zero is refused (5)."
+#[inline(always)]
+pub(crate) fn nothing(word: u32) -> Option<()> {
+    (word >> RD_SHIFT == 0).then_some(())
 }

@@ -9,8 +9,8 @@ mod opcode;
 mod register;
 mod value40;
 
+pub use self::decode::{decode, Undecodable};
 pub use bound::ValueBound;
-pub use decode::{decode, Undecodable};
 pub use encode::{encode, Unencodable};
 pub use instruction::{Instruction, Operands};
 pub use opcode::Opcode;

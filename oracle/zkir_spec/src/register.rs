@@ -9,7 +9,11 @@ impl Register {
         self.0 < 16
     }
 
+    /// Its place among sixteen. Cut to four bits, so that no place is tested again: a register that does not exist is
+    /// refused before anything is asked of it.
+    #[inline]
     pub const fn index(self) -> usize {
-        self.0 as usize
+        debug_assert!(self.exists());
+        self.0 as usize % 16
     }
 }

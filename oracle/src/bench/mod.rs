@@ -1,0 +1,98 @@
+//! Processor time of the published Rust, of the interpreter written by hand and of the subject, on the same programs in
+//! the same process. Subjects take turns, and the least of the rounds counts: what disturbs a round only lengthens it.
+
+mod clock;
+mod row;
+mod shared;
+mod workloads;
+
+use crate::interpreter::Interpreter;
+use crate::subject::{Oracle, Subject};
+
+pub use row::{rows, Pace, Row};
+pub use shared::Shared;
+
+/// Instructions after which all subjects must have left the same, before anything is measured.
+const AGREEMENT: u64 = 50_000;
+
+/// How often each row is measured, and over how many instructions.
+#[derive(Clone, Copy)]
+pub struct Effort {
+    pub rounds: u64,
+    pub instructions: u64,
+}
+
+/// The subjects of a table besides the published Rust and the interpreter written by hand.
+pub struct Subjects<'s> {
+    pub ours: &'s dyn Subject,
+    /// Another build of ours.
+    pub beside: Option<&'s dyn Subject>,
+}
+
+/// What a row took, in nanoseconds.
+struct Times {
+    published: f64,
+    by_hand: f64,
+    ours: f64,
+    beside: Option<f64>,
+}
+
+/// The extreme ratios over the rows that count instructions.
+pub struct Extremes {
+    pub least_published_by_ours: f64,
+    pub most_ours_by_hand: f64,
+}
+
+/// Prints a table in Markdown, a line as soon as its row is measured.
+pub fn print(subjects: &Subjects, effort: Effort) -> Extremes {
+    print_head(subjects.beside.is_some(), effort);
+    let mut extremes = Extremes { least_published_by_ours: f64::INFINITY, most_ours_by_hand: 0.0 };
+    for row in rows() {
+        let times = measured(&row, subjects, effort);
+        print_row(&row, &times);
+        if let Pace::OneRun = row.pace {
+            extremes.least_published_by_ours = extremes.least_published_by_ours.min(times.published / times.ours);
+            extremes.most_ours_by_hand = extremes.most_ours_by_hand.max(times.ours / times.by_hand);
+        }
+    }
+    extremes
+}
+
+fn print_head(beside: bool, effort: Effort) {
+    println!(
+        "least of {} rounds of {} instructions, processor time of the thread\n",
+        effort.rounds, effort.instructions
+    );
+    print!("| Workload | Mode | ns per | Published Rust | By hand | Ours | Published / ours | Ours / by hand |");
+    println!("{}", if beside { " Beside | Ours / beside |" } else { "" });
+    println!("|---|---|---|---|---|---|---|---|{}", if beside { "---|---|" } else { "" });
+}
+
+fn print_row(row: &Row, times: &Times) {
+    let Times { published, by_hand, ours, beside } = times;
+    print!("| {} | {:?} | {} |", row.name, row.mode, row.pace.unit());
+    print!(" {published:.1} | {by_hand:.1} | {ours:.1} | {:.2} | {:.2} |", published / ours, ours / by_hand);
+    if let Some(beside) = beside {
+        print!(" {beside:.1} | {:.2} |", ours / beside);
+    }
+    println!();
+}
+
+fn measured(row: &Row, subjects: &Subjects, effort: Effort) -> Times {
+    let always: [&dyn Subject; 3] = [&Oracle, &Interpreter, subjects.ours];
+    let least = least_times(row, &always.into_iter().chain(subjects.beside).collect::<Vec<_>>(), effort);
+    Times { published: least[0], by_hand: least[1], ours: least[2], beside: least.get(3).copied() }
+}
+
+fn least_times(row: &Row, subjects: &[&dyn Subject], effort: Effort) -> Vec<f64> {
+    for other in &subjects[1..] {
+        assert!(row.agree(subjects[0], *other, AGREEMENT), "{}, {:?}: subjects differ", row.name, row.mode);
+    }
+    let mut least = vec![f64::INFINITY; subjects.len()];
+    for _ in 0..effort.rounds {
+        for (subject, least) in subjects.iter().zip(&mut least) {
+            *least = least.min(row.time(*subject, effort.instructions));
+        }
+    }
+    least
+}
