@@ -1,4 +1,4 @@
--- The parts of a state's bytes and of three numbers': how long each is, and that storing them one after another stores the whole.
+-- The parts of a state's and an answer's bytes: how long each is, and that storing them one after another stores the whole.
 use Prim.Native.Nat.{ℕ, zero, suc, _+_, _-_, _*_, _/_, _%_, _<_, _≤_}
 use mathlib.Core.Path.{_≡_, refl, sym, _∙_}
 use mathlib.Core.Bool.{Bool, true, false}
@@ -12,7 +12,7 @@ use Rattle.state.specs.Registers.{Registers}
 use Rattle.state.specs.Formed.{registersOf}
 use Rattle.state.specs.declared.State.{State}
 use Rattle.layout.specs.Layout.{HEADER_BYTES, RECORD_BYTES, STATE_BYTES, markOf, headerBytes, recordBytes, records, stateBytes, recordAt, written}
-use Rattle.layout.specs.Triple.{TRIPLE_BYTES, tripleBytes}
+use Rattle.layout.specs.Answer.{ANSWER_BYTES, answerBytes}
 use Rattle.layout.proofs.Rows.{sets-next, written-all}
 
 pub length-header : (pc : ℕ) (halted : Bool) → length (headerBytes pc halted) ≡ HEADER_BYTES
@@ -54,13 +54,13 @@ state-stored s old h =
     rw header-is (sets-next old 0 HEADER_BYTES (headerBytes (s .pc) (s .halted)) (records 16 0 (registersOf s)) (rw length-header (omega arith)))
     ∙ written-all STATE_BYTES (stateBytes s) old h (length-state s)
 
-length-triple : (a b c : ℕ) → length (tripleBytes a b c) ≡ TRIPLE_BYTES
-unfolding tripleBytes bytes
-length-triple a b c = refl
+length-answer : (code steps particular : ℕ) → length (answerBytes code steps particular) ≡ ANSWER_BYTES
+unfolding answerBytes bytes
+length-answer code steps particular = refl
 
-pub triple-stored : (a b c : ℕ) (old : List ℕ) → length old ≡ TRIPLE_BYTES
-    → sets old 0 (tripleBytes a b c) ≡ written TRIPLE_BYTES (tripleBytes a b c) old
-triple-stored a b c old h = written-all TRIPLE_BYTES (tripleBytes a b c) old h (length-triple a b c)
+pub answer-stored : (code steps particular : ℕ) (old : List ℕ) → length old ≡ ANSWER_BYTES
+    → sets old 0 (answerBytes code steps particular) ≡ written ANSWER_BYTES (answerBytes code steps particular) old
+answer-stored code steps particular old h = written-all ANSWER_BYTES (answerBytes code steps particular) old h (length-answer code steps particular)
 
 module _ (R : Registers) (l : List ℕ) (i : ℕ) where
   -- one more record stored

@@ -371,17 +371,11 @@ pub normalize·normalize-if-near-overflow : Determined normalize.normalize_if_ne
 normalize·normalize-if-near-overflow κs a x y = one (λ r. r & x .1)
 
 -- ---- layout
-pub layout·triple·write-triple : Determined layout.triple.write_triple.ended layout.triple.write_triple.Reads.Learnt
-layout·triple·write-triple κs a x y = one (λ m. tt & m & x .1 .1)
-
 pub layout·answer·write-answer : Determined layout.answer.write_answer.ended layout.answer.write_answer.Reads.Learnt
 layout·answer·write-answer κs a x y = one (λ m. tt & m & x .1 .1)
 
 pub layout·writing·write-state : Determined layout.writing.write_state.ended layout.writing.write_state.Reads.Learnt
 layout·writing·write-state κs a x y = one (λ m. tt & m & x .1 .1)
-
-pub layout·reading·read : Determined layout.reading.read.ended layout.reading.read.Reads.Learnt
-layout·reading·read κs a x y = one (λ r. r & x .1)
 
 pub layout·reading·read-state : Determined layout.reading.read_state.ended layout.reading.read_state.Reads.Learnt
 layout·reading·read-state κs a x y = one (λ r. r & x .1)
