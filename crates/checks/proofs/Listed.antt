@@ -4,15 +4,14 @@
 --     listed-more           a record put at the count is one check more; there is none where there is no room
 --     no-entry, entry-is    what is read back, from the test that `read` makes
 use Prim.Native.Nat.{ℕ, zero, suc, _+_, _<_, _≤_}
-use mathlib.Core.Path.{_≡_, refl, sym, ap, _∙_}
+use mathlib.Core.Path.{_≡_, refl, ap, _∙_}
 use mathlib.Core.Bool.{Bool, true, false, _||_}
 use mathlib.Core.List.{List, [], _∷_, map}
 use lib.Dec.{leb, ltb}
 use lib.ListN.{length, set, getD, drop, length-map, List·getD-map}
 use native.Mathlib.Omega.{arith}
-use lib.Seq.{set-out}
 use borrow.Author.Tests.{lt-ltb, le-ltb, eq-eqb, le-leb, lt-leb, ltb-true, ltb-false, leb-true, leb-false}
-use Rattle.pending.specs.Pending.{Lists, lists, listsFit, roomAt, roomOf, appended, entryAt}
+use Rattle.pending.specs.Pending.{Lists, listsFit, roomAt, roomOf, appended, entryAt}
 use Rattle.pending.specs.declared.Entry.the-variants as E
 use Rattle.pending.proofs.Lists.{entry-malformed, entry-beyond, entry-there}
 use Rattle.checks.specs.Records.{listed}

@@ -1,26 +1,23 @@
 -- A step of a state that is lent as a record of numbers.
 use Prim.Native.Nat.{ℕ}
-use mathlib.Core.Bool.{Bool, true, false, cond, _&&_}
+use mathlib.Core.Bool.{Bool, false, cond, _&&_}
 use mathlib.Core.List.{List}
 use lib.Dec.{leb, eqb}
-use lib.ListN.{getD, replicate}
+use lib.ListN.{getD}
 use Rattle.refusal.specs.Stops.{refusalOf, codeOf, particularAt}
 use Rattle.state.specs.Formed.{allBelow}
 use Rattle.state.specs.declared.State.{State}
-use Rattle.execute.specs.World.{World, worldOf}
-use Rattle.execute.specs.declared.Mode.the-variants.{Deferred}
+use Rattle.execute.specs.World.{worldOf}
+use Rattle.execute.specs.Rules.{documentRules}
 use Rattle.execute.specs.declared.Went.{Went}
 use Rattle.execute.specs.declared.Went.the-variants as W
 use Rattle.pending.specs.Pending.{Lists}
-use Rattle.step.specs.Step.{Left, left, documentRules, step}
+use Rattle.step.specs.Step.{Left, step}
 use Rattle.run.specs.Run.{stopOf}
-use Rattle.step.specs.declared.OneStep.{OneStep}
 use Rattle.layout.specs.Layout.{markOf, table}
 use Rattle.host.specs.Call.{modeOf, stateOf}
 use Rattle.lent.specs.declared.exported.Lent.{Lent}
 use Rattle.lent.specs.declared.exported.Answer.{Answer}
-use Rattle.lent.specs.declared.exported.Ready.{Ready}
-use Rattle.lent.specs.declared.exported.Done.{Done}
 
 -- "halt mark 0 or 1", "kind 0 or 1"; what else the rules forbid of a state, its step refuses
 abbrev pub markFits : List ℕ → ℕ → Bool
@@ -77,13 +74,3 @@ served r s = lentLeft (answerOf (s .went) (s .lists .count)) (after r (s .went) 
 unfoldable pub stepLent : ℕ → Lent → List ℕ → Lists → Stepped
 stepLent mode r m l =
     cond (leb mode 1 && laid r) (served r (step (modeOf mode) documentRules (worldOf (stateIn r) m) l)) (lentLeft (answerOf (W.Refused (refusalOf 9 0)) (l .count)) r m l)
-
--- the inner functions: a state that every step refuses, what is stepped, and what a step gives
-abbrev pub shut : State
-shut = record { pc = 0; halted = false; regs = replicate 16 0; accumulated = replicate 16 false; bounds = replicate 16 1 }
-
-unfoldable pub readied : Lent → ℕ → Ready
-readied r mode = cond (leb mode 1 && laid r) (record { mode = modeOf mode; state = stateIn r }) (record { mode = Deferred; state = shut })
-
-abbrev pub concluded : Lent → OneStep → Done
-concluded r d = record { answer = answerOf (d .went) (d .count); lent = after r (d .went) (d .state) }

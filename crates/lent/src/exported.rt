@@ -1,7 +1,10 @@
 // A step of a state that a host over C lends, as a record of numbers.
 use checks::Pending;
+use execute::Choices;
 use execute::Mode;
 use execute::Went;
+use host::mode_of;
+use run::legs::stop_of;
 use state::State;
 use step::OneStep;
 ghost use mathlib.Core.Path.{_≡_};
@@ -9,9 +12,9 @@ ghost use mathlib.Core.Bool.{_&&_};
 ghost use lib.Dec.{leb};
 ghost use Rattle.state.specs.Formed.{allBelow};
 ghost use Rattle.layout.specs.Layout.{markOf};
-ghost use Rattle.host.specs.Call.{modeOf};
 ghost use Rattle.checks.specs.Records.{listed};
-ghost use Rattle.lent.specs.Lent.{markFits, laid, stateIn, numbersOf, after, readied, concluded, lentLeft, stepLent};
+ghost use Rattle.lent.specs.Lent.{markFits, laid, stateIn, numbersOf, after, lentLeft, stepLent};
+ghost use Rattle.lent.specs.Inner.{readied, concluded};
 
 // Mark and kinds are 0 or 1. The values are kept as the state keeps them: of an accumulated register low + 2^30 * high.
 #[repr(C)]
@@ -32,7 +35,7 @@ pub struct Answer {
 }
 
 struct Ready {
-    mode: Mode,
+    choices: Choices,
     state: State,
 }
 
@@ -67,15 +70,6 @@ fn takes(r: Lent, mode: u64) -> bool
     kinds_fit(&kinds)
 }
 
-fn mode_of(n: u64) -> Mode
-    ensures { λ r. ⌜ r ≡ modeOf n ⌝ }
-{
-    if n == 0 {
-        return Mode::Plain;
-    }
-    Mode::Deferred
-}
-
 fn kind_of(waits: bool) -> u8
     ensures { λ r. ⌜ r ≡ markOf waits ⌝ }
 {
@@ -94,13 +88,7 @@ fn state_in(r: Lent) -> State
     }
     let regs = r.values;
     let bounds = r.bounds;
-    State {
-        pc: r.pc,
-        halted: r.halted == 1,
-        regs,
-        accumulated,
-        bounds,
-    }
+    state::together(r.pc, r.halted == 1, regs, accumulated, bounds)
 }
 
 fn numbers_of(s: State) -> Lent
@@ -130,19 +118,18 @@ fn prepare(r: Lent, mode: u64) -> Ready
 {
     if !takes(r, mode) {
         return Ready {
-            mode: Mode::Deferred,
-            state: State {
-                pc: 0,
-                halted: false,
-                regs: [0; 16],
-                accumulated: [false; 16],
-                bounds: [1; 16],
+            choices: Choices {
+                mode: Mode::Deferred,
             },
+            state: state::together(0, false, [0; 16], [false; 16], [1; 16]),
         };
     }
     let mode = mode_of(mode);
     let state = state_in(r);
-    Ready { mode, state }
+    Ready {
+        choices: Choices { mode },
+        state,
+    }
 }
 
 // A refused step leaves the record as it was.
@@ -163,7 +150,7 @@ fn conclude(r: Lent, d: OneStep) -> Done
     let went = d.went;
     let state = d.state;
     let lent = record_after(r, went, state);
-    let stop = run::stop_of(went);
+    let stop = stop_of(went);
     let answer = Answer {
         code: refusal::code(stop),
         particular: refusal::particular_at(stop),
@@ -185,7 +172,7 @@ pub extern "C" fn zkir_step(
 {
     let old = *state;
     let a = prepare(old, mode);
-    let r = checked::step(a.mode, a.state, memory, list, count);
+    let r = checked::step(a.choices, a.state, memory, list, count);
     let d = conclude(old, r);
     *state = d.lent;
     d.answer

@@ -1,11 +1,12 @@
 // One thin entry that steps a state which its host lends.
 use checks::Pending;
-use execute::Mode;
+use execute::Choices;
 use execute::Went;
 use state::State;
 ghost use mathlib.Core.Path.{_≡_};
 ghost use Rattle.execute.specs.World.{worldOf};
-ghost use Rattle.step.specs.Step.{left, documentRules, step};
+ghost use Rattle.execute.specs.Rules.{rulesOf};
+ghost use Rattle.step.specs.Step.{left, step};
 ghost use Rattle.checks.specs.Records.{listed};
 
 pub mod exported; // exported.rt: the same for a host over C, as a record of numbers
@@ -18,15 +19,15 @@ pub struct Outcome {
 // The state is taken out, stepped by value and stored back.
 pub fn step_in_place(
     s: &mut State,
-    mode: Mode,
+    choices: Choices,
     m: &mut [u8],
     list: &mut [Pending],
     count: usize,
 ) -> Outcome
-    ensures { λ r. ⌜ left (r .went) (worldOf (now (s .exit)) (now (m .exit))) (listed (r .count) (now (list .exit))) ≡ step mode documentRules (worldOf (now (s .entry)) (now (m .entry))) (listed count (now (list .entry))) ⌝ }
+    ensures { λ r. ⌜ left (r .went) (worldOf (now (s .exit)) (now (m .exit))) (listed (r .count) (now (list .exit))) ≡ step (choices .mode) (rulesOf choices) (worldOf (now (s .entry)) (now (m .entry))) (listed count (now (list .entry))) ⌝ }
 {
     let old = *s;
-    let r = checked::step(mode, old, m, list, count);
+    let r = checked::step(choices, old, m, list, count);
     *s = r.state;
     Outcome {
         went: r.went,

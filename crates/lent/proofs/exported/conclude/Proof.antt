@@ -1,18 +1,17 @@
-use borrow.Author.Needs.{needs}
 use Rattle.lent.proofs.exported.conclude.Statement.{statement}
 use Rattle.lent.proofs.exported.conclude.Tie as tie
 
 record-after-requires : tie.Need-record-after-requires
-record-after-requires c κs = search needs
+record-after-requires c κs = tt
 
 stop-of-requires : tie.Need-stop-of-requires
-stop-of-requires c κs = search needs
+stop-of-requires c κs = tt
 
 code-requires : tie.Need-code-requires
-code-requires c κs = search needs
+code-requires c κs = tt
 
 particular-at-requires : tie.Need-particular-at-requires
-particular-at-requires c κs = search needs
+particular-at-requires c κs = tt
 
 returns : tie.Need-returns
 returns c = rw (c .particular-at .ensures, c .before .code .ensures, c .before .before .stop-of .ensures, c .before .before .before .record-after .ensures)

@@ -26,7 +26,7 @@ array-read-kind-of : tie.Need-array-read-kind-of Inv-loop μ-loop
 array-read-kind-of c = search needs
 
 kind-of-requires : tie.Need-kind-of-requires Inv-loop μ-loop
-kind-of-requires c κs = search needs
+kind-of-requires c κs = tt
 
 array-write-kinds : tie.Need-array-write-kinds Inv-loop μ-loop
 array-write-kinds c = search needs
@@ -41,7 +41,7 @@ loop-again : tie.Need-loop-again Inv-loop μ-loop
 loop-again c = (omega arith, sym (table-more (c .before .before .loop .kinds) 16 (c .before .before .loop .i) (λ k. markOf (getD (c .before .before .before .before .args .s .accumulated) k false)) (omega arith) (c .kind-of .ensures)) ∙ c .before .before .loop .inv .1)
 
 kind-of-requires-2 : tie.Need-kind-of-requires-2 Inv-loop μ-loop
-kind-of-requires-2 c κs = search needs
+kind-of-requires-2 c κs = tt
 
 returns : tie.Need-returns Inv-loop μ-loop
 unfolding numbersOf

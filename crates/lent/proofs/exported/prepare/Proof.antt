@@ -1,22 +1,24 @@
 use mathlib.Core.Path.{sym, _∙_}
 use borrow.Author.Tests.{not-true, not-false}
-use Rattle.lent.specs.Lent.{readied}
-use borrow.Author.Needs.{needs}
+use Rattle.lent.specs.Inner.{readied}
 use Rattle.lent.proofs.exported.prepare.Statement.{statement}
 use Rattle.lent.proofs.exported.prepare.Tie as tie
 
 takes-requires : tie.Need-takes-requires
-takes-requires c κs = search needs
+takes-requires c κs = tt
+
+together-requires : tie.Need-together-requires
+together-requires c κs = tt
 
 returns : tie.Need-returns
 unfolding readied
-returns c = rw (sym (c .before .takes .ensures) ∙ not-true _ (c .if1 .taken))
+returns c = rw (sym (c .before .before .takes .ensures) ∙ not-true _ (c .before .if1 .taken), c .together .ensures)
 
 mode-of-requires : tie.Need-mode-of-requires
-mode-of-requires c κs = search needs
+mode-of-requires c κs = tt
 
 state-in-requires : tie.Need-state-in-requires
-state-in-requires c κs = search needs
+state-in-requires c κs = tt
 
 returns-2 : tie.Need-returns-2
 unfolding readied
@@ -24,4 +26,11 @@ returns-2 c = rw (sym (c .before .before .before .takes .ensures) ∙ not-false 
 
 pub prepare-spec : {M : Type 1} → statement M
 prepare-spec =
-    tie.close (tie.spec takes-requires returns mode-of-requires state-in-requires returns-2)
+    tie.close
+    (tie.spec
+    takes-requires
+    together-requires
+    returns
+    mode-of-requires
+    state-in-requires
+    returns-2)

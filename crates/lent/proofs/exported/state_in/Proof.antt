@@ -38,9 +38,12 @@ loop-less c = omega arith
 loop-again : tie.Need-loop-again Inv-loop μ-loop
 loop-again c = (omega arith, sym (table-more (c .before .loop .accumulated) 16 (c .before .loop .i) (λ k. eqb (getD (c .before .before .before .args .r .kinds) k 0) 1) (omega arith) refl) ∙ c .before .loop .inv .1)
 
+together-requires : tie.Need-together-requires Inv-loop μ-loop
+together-requires c κs = tt
+
 returns : tie.Need-returns Inv-loop μ-loop
 unfolding stateIn
-returns c = rw (filled 16 (c .before .before .before .before .loop .accumulated) (replicate 16 false) (c .before .before .before .before .loop .i) (λ k. eqb (getD (c .before .before .before .before .before .before .args .r .kinds) k 0) 1) (omega arith) refl (c .before .before .before .before .loop .inv .1))
+returns c = rw (c .together .ensures, filled 16 (c .before .before .before .before .before .loop .accumulated) (replicate 16 false) (c .before .before .before .before .before .loop .i) (λ k. eqb (getD (c .before .before .before .before .before .before .before .args .r .kinds) k 0) 1) (omega arith) refl (c .before .before .before .before .before .loop .inv .1))
 
 pub state-in-spec : {M : Type 1} → statement M
 state-in-spec =
@@ -54,4 +57,5 @@ state-in-spec =
     add-i
     loop-less
     loop-again
+    together-requires
     returns)

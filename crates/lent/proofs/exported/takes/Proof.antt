@@ -1,6 +1,5 @@
 use borrow.Author.Tests.{le-leb, lt-leb}
 use Rattle.lent.specs.Lent.{laid}
-use borrow.Author.Needs.{needs}
 use Rattle.lent.proofs.exported.takes.Statement.{statement}
 use Rattle.lent.proofs.exported.takes.Tie as tie
 
@@ -13,7 +12,7 @@ unfolding laid
 returns-2 c = rw (le-leb _ _ (c .before .before .if1 .left), lt-leb _ _ (c .if2 .taken))
 
 kinds-fit-requires : tie.Need-kinds-fit-requires
-kinds-fit-requires c κs = search needs
+kinds-fit-requires c κs = tt
 
 returns-3 : tie.Need-returns-3
 unfolding laid

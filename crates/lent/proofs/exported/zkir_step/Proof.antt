@@ -3,23 +3,21 @@
 -- Assumes nothing.
 use Rattle.walks.proofs.Walk.{ !, Atoms, Body, Calls, Contract, FmC, Fun, GName, Given, Heap, Is, Lft, List, Loops, Meets, Memory, MutRef, MutSlice, RefT, Room, Routine, SProp, Share, Stays, Tables, Triple, URA, Val, Walks, WpFn, WpFn-mono, [], _$_, _<_, _^_, _∵_, _∷_, _≡_, _⊛_, addr, agg, alloc0, alloc1, and-then, ap, assigns, await, by, calls-at, cited, closes, done, drop, emp, ends-at, ensured, ent, enter, entered, fact, fat, fbor, feqI, feqL, finally, fjoin, fjoin3, fld, flft, fmOf, fobs, forget, frame, free0, free1, from, fsplit, fsplit3, fst∗, ftrue, fullShare, gave-slice, givenOf, goes-gave-slice, goes-none, goes-ref, heard, hop, id⊢, init, join, keep, land, lasts, later, length, load, look, look-in, look-raw, mem, move, mut-slice-tells, mut-tells, named, no-more, nothing, of-opd, onEntry, only, opens, owned, owns, params1, pass0, pass1, peeks, pick, plain, ptr-vals, qed, raw, refl, returns, rewrite, says, shows, slice-vals, sliceVal, some, spelt, split, stay-none, stay-ref, stop, store-raw, sub, subst, suffices, tables, tablesOf, tripleOf, u64, u8, uint-makes, uint-tells, uint-vals, use0, use1, use3, usize, via, vint, vptr, w64, walk-meets, walkOf, walked, whole, yes, ‵, ℕ, ⋆}
 use denote.Struct.Laws as LL
-use denote.Enum.Laws as EL
 use Rattle.execute.specs.World.{worldOf}
-use Rattle.step.specs.Step.{documentRules, step as steps}
+use Rattle.execute.specs.Rules.{rulesOf}
+use Rattle.step.specs.Step.{step as steps}
 use Rattle.step.specs.declared.OneStep.{OneStep}
 use Rattle.checks.specs.Records.{listed}
 use Rattle.checked.specs.Machine.{steppedOver}
 use Rattle.checks.specs.declared.Pending.{Pending}
-use Rattle.lent.proofs.Stepping.{valsM, valsS, Step, asked, to-step, goes-step}
-use Rattle.lent.specs.Lent.{readied, concluded}
+use Rattle.lent.proofs.Stepping.{valsC, valsS, Step, asked, to-step, goes-step}
+use Rattle.lent.specs.Inner.{readied, concluded}
 use Rattle.lent.specs.declared.exported.Lent.{Lent}
 use Rattle.lent.specs.declared.exported.Ready.{Ready}
 use Rattle.lent.specs.declared.exported.Done.{Done}
 use Rattle.lent.proofs.Laws.{says-lent}
-use Rattle.execute.proofs.Mode as O
-use Rattle.execute.proofs.Mode.Laws as O′
+use Rattle.execute.proofs.Choices as O
 use Rattle.state.proofs.State as T
-use Rattle.state.proofs.State.Laws as T′
 use Rattle.step.proofs.OneStep as N
 use Rattle.step.proofs.OneStep.Laws as N′
 use Rattle.checks.proofs.Pending as K
@@ -106,7 +104,7 @@ module _ {M : Type 1} (𝓤 : URA M) (H : Heap 𝓤) (A : Atoms 𝓤) (W : Given
   goes-conclude r is is′ =
       qed W [] ∵ nothing ! $ owned ! N.the-row (Is N.the-row) (LL.makes N.the-type N′.the-plain 𝓤 H A) r _ is′ $ fjoin ! $ owned ! L.the-row (Is L.the-row) (LL.makes L.the-type L′.the-plain 𝓤 H A) h _ is $ fjoin ! $ nothing ! $ join ! $ frame ! $ done !
 
-  exits : (c : Ready) (r : OneStep) (d : Done) (zs : List ℕ) (ws : List Pending) (w : Val) → c ≡ readied h k → steppedOver r zs ws ≡ steps (c .mode) documentRules (worldOf (c .state) ys) (listed n ks) → d ≡ concluded h r → length zs ≡ length ys → length ws ≡ length ks → Is Q.the-row (d .answer) (w ∷ [])
+  exits : (c : Ready) (r : OneStep) (d : Done) (zs : List ℕ) (ws : List Pending) (w : Val) → c ≡ readied h k → steppedOver r zs ws ≡ steps (c .choices .mode) (rulesOf (c .choices)) (worldOf (c .state) ys) (listed n ks) → d ≡ concluded h r → length zs ≡ length ys → length ws ≡ length ks → Is Q.the-row (d .answer) (w ∷ [])
       → ent 𝓤 (⋆ 𝓤 H A (‵ (fobs γ (L.the-row .coded .code (d .lent))) ∷ ‵ (fbor κ (Body (mem L.the-row) b o γ)) ∷ ‵ (flft κ q) ∷ (‵ (flft κ₁ q₁) ⊛ ‵ (flft κ₂ q₂) ⊛ ‵ ftrue) ∷ ‵ (finally K.the-row γ₂ ws) ∷ ‵ (finally u8 γ₁ zs) ∷ [])) (Post w)
   exits c r d zs ws w e f g l l′ is =
       qed W (‵ (fobs γ (L.the-row .coded .code (d .lent))) ∷ ‵ (fbor κ (Body (mem L.the-row) b o γ)) ∷ ‵ (flft κ q) ∷ (‵ (flft κ₁ q₁) ⊛ ‵ (flft κ₂ q₂) ⊛ ‵ ftrue) ∷ ‵ (finally K.the-row γ₂ ws) ∷ ‵ (finally u8 γ₁ zs) ∷ []) ∵
@@ -116,7 +114,7 @@ module _ {M : Type 1} (𝓤 : URA M) (H : Heap 𝓤) (A : Atoms 𝓤) (W : Given
       owned ! Q.the-row (Is Q.the-row) (LL.makes Q.the-type Q′.the-plain 𝓤 H A) (d .answer) _ is $ move ! (1 ∷ 0 ∷ []) $ done !
 
   -- what whoever holds a `Ready` or a `Done` knows of its fields
-  made : (c : Ready) (w : Val) → Is R.the-row c (w ∷ []) → Is O.the-row (c .mode) (valsM (c .mode)) × Is T.the-row (c .state) (valsS (c .state))
+  made : (c : Ready) (w : Val) → Is R.the-row c (w ∷ []) → Is O.the-row (c .choices) (valsC (c .choices)) × Is T.the-row (c .state) (valsS (c .state))
   made c w is = let fields = LL.owed R.the-type R′.the-laws c _ is in (fields .0, fields .1 .0)
 
   parts : (d : Done) (w : Val) → Is D.the-row d (w ∷ []) → Is Q.the-row (d .answer) (LL.vals Q.the-type Q′.the-laws (d .answer)) × Is L.the-row (d .lent) (valsL (d .lent))
@@ -147,11 +145,11 @@ module _ {M : Type 1} (𝓤 : URA M) (H : Heap 𝓤) (A : Atoms 𝓤) (W : Given
         assigns ! (agg ! (and-then ! (load ! (from ! (stop !)) (look ! 9 refl)) (and-then ! (load ! (from ! (fld ! refl (stop !))) (look-in ! 27 (sub ! 1 refl (whole !)))) (no-more !)))) (from ! (stop !)) (init ! 7 refl (tt, (tt, (record { fits = room′ .0 }, tt)))) $
         -- `step` is called
         move ! (6 ∷ []) $ fsplit ! $ move ! (1 ∷ []) $ fsplit ! $ move ! (1 ∷ []) $ drop ! $ move ! (7 ∷ 1 ∷ 0 ∷ []) $
-        use3 W (raw (Step 𝓤 H A at-mem run .pre (to-step 𝓤 H A at-mem run κ₁ κ₂ q₁ q₂ (c .mode) (c .state) b₁ o₁ γ₁ ys b₂ o₂ γ₂ ks n))) (goes-step 𝓤 H A at-mem run κ₁ κ₂ q₁ q₂ (c .mode) (c .state) b₁ o₁ γ₁ ys b₂ o₂ γ₂ ks n W (made c w₁ is₁ .0) (made c w₁ is₁ .1) n-fits) $
-        calls-at ! fm (Step 𝓤 H A at-mem run) known-step (to-step 𝓤 H A at-mem run κ₁ κ₂ q₁ q₂ (c .mode) (c .state) b₁ o₁ γ₁ ys b₂ o₂ γ₂ ks n) (and-then ! (load ! (from ! (fld ! refl (stop !))) (look-in ! 18 (sub ! 0 refl (whole !)))) (and-then ! (load ! (from ! (fld ! refl (stop !))) (look-in ! 18 (sub ! 1 refl (whole !)))) (and-then ! (load ! (from ! (stop !)) (look ! 10 refl)) (and-then ! (load ! (from ! (stop !)) (look ! 6 refl)) (and-then ! (load ! (from ! (stop !)) (look ! 24 refl)) (no-more !)))))) (λ w.
-        use1 W (later (some (λ (r : OneStep). ((‵ (flft κ₁ q₁) ⊛ ‵ (flft κ₂ q₂) ⊛ ‵ ftrue) ⊛ ‵ (N.the-row .own r (w ∷ []))) ⊛ raw (ensured 𝓤 H A step.ended (step.clauses 𝓤 H A at-mem run) (κ₁, (κ₂, tt)) (asked 𝓤 H A at-mem run κ₁ κ₂ q₁ q₂ (c .mode) (c .state) b₁ o₁ γ₁ ys b₂ o₂ γ₂ ks n) tt r)))) (id⊢ 𝓤 _) $ await ! tt $ pick ! (λ r.
-        split ! $ move ! (1 ∷ []) $ use1 W (some (λ (zs : Unit {0} × (Unit {0} × (List ℕ × (List Pending × (Unit {0} × Unit {0}))))). ‵ (lasts step.ended (κ₁, (κ₂, tt)) (asked 𝓤 H A at-mem run κ₁ κ₂ q₁ q₂ (c .mode) (c .state) b₁ o₁ γ₁ ys b₂ o₂ γ₂ ks n) zs) ⊛ raw (fact 𝓤 (steppedOver r (zs .1 .1 .0) (zs .1 .1 .1 .0) ≡ steps (c .mode) documentRules (worldOf (c .state) ys) (listed n ks))))) (id⊢ 𝓤 _) $ pick ! (λ zs.
-        split ! $ move ! (1 ∷ []) $ heard ! (steppedOver r (zs .1 .1 .0) (zs .1 .1 .1 .0) ≡ steps (c .mode) documentRules (worldOf (c .state) ys) (listed n ks)) (λ e. fsplit ! $ drop ! $ fsplit ! $ drop ! $ fsplit ! $ fsplit ! $ move ! (1 ∷ []) $ feqL ! (λ l. move ! (1 ∷ []) $ fsplit ! $ fsplit ! $ move ! (1 ∷ []) $ feqL ! (λ l′.
+        use3 W (raw (Step 𝓤 H A at-mem run .pre (to-step 𝓤 H A at-mem run κ₁ κ₂ q₁ q₂ (c .choices) (c .state) b₁ o₁ γ₁ ys b₂ o₂ γ₂ ks n))) (goes-step 𝓤 H A at-mem run κ₁ κ₂ q₁ q₂ (c .choices) (c .state) b₁ o₁ γ₁ ys b₂ o₂ γ₂ ks n W (made c w₁ is₁ .0) (made c w₁ is₁ .1) n-fits) $
+        calls-at ! fm (Step 𝓤 H A at-mem run) known-step (to-step 𝓤 H A at-mem run κ₁ κ₂ q₁ q₂ (c .choices) (c .state) b₁ o₁ γ₁ ys b₂ o₂ γ₂ ks n) (and-then ! (load ! (from ! (fld ! refl (stop !))) (look-in ! 18 (sub ! 0 refl (whole !)))) (and-then ! (load ! (from ! (fld ! refl (stop !))) (look-in ! 18 (sub ! 1 refl (whole !)))) (and-then ! (load ! (from ! (stop !)) (look ! 10 refl)) (and-then ! (load ! (from ! (stop !)) (look ! 6 refl)) (and-then ! (load ! (from ! (stop !)) (look ! 24 refl)) (no-more !)))))) (λ w.
+        use1 W (later (some (λ (r : OneStep). ((‵ (flft κ₁ q₁) ⊛ ‵ (flft κ₂ q₂) ⊛ ‵ ftrue) ⊛ ‵ (N.the-row .own r (w ∷ []))) ⊛ raw (ensured 𝓤 H A step.ended (step.clauses 𝓤 H A at-mem run) (κ₁, (κ₂, tt)) (asked 𝓤 H A at-mem run κ₁ κ₂ q₁ q₂ (c .choices) (c .state) b₁ o₁ γ₁ ys b₂ o₂ γ₂ ks n) tt r)))) (id⊢ 𝓤 _) $ await ! tt $ pick ! (λ r.
+        split ! $ move ! (1 ∷ []) $ use1 W (some (λ (zs : Unit {0} × (Unit {0} × (List ℕ × (List Pending × (Unit {0} × Unit {0}))))). ‵ (lasts step.ended (κ₁, (κ₂, tt)) (asked 𝓤 H A at-mem run κ₁ κ₂ q₁ q₂ (c .choices) (c .state) b₁ o₁ γ₁ ys b₂ o₂ γ₂ ks n) zs) ⊛ raw (fact 𝓤 (steppedOver r (zs .1 .1 .0) (zs .1 .1 .1 .0) ≡ steps (c .choices .mode) (rulesOf (c .choices)) (worldOf (c .state) ys) (listed n ks))))) (id⊢ 𝓤 _) $ pick ! (λ zs.
+        split ! $ move ! (1 ∷ []) $ heard ! (steppedOver r (zs .1 .1 .0) (zs .1 .1 .1 .0) ≡ steps (c .choices .mode) (rulesOf (c .choices)) (worldOf (c .state) ys) (listed n ks)) (λ e. fsplit ! $ drop ! $ fsplit ! $ drop ! $ fsplit ! $ fsplit ! $ move ! (1 ∷ []) $ feqL ! (λ l. move ! (1 ∷ []) $ fsplit ! $ fsplit ! $ move ! (1 ∷ []) $ feqL ! (λ l′.
         move ! (3 ∷ []) $ split ! $ move ! (1 ∷ []) $ peeks ! N.the-row (Is N.the-row) (shows 𝓤 H A N.the-row) r (w ∷ []) (λ is.
         land ! (from ! (stop !)) (init ! 20 refl (LL.lawful N.the-type N′.the-laws 𝓤 H A W .typed r _ is .0)) $ rewrite ! 20 (λ (u : Val). ‵ (fat fullShare N′.mir l₈ 0 u)) (ap only (LL.tells N.the-type N′.the-laws r _ is)) refl $
         -- [what the result owns; the slices' tokens; list's last list; …; m's last list; the cell; what the old one owns; the open borrow; obs; auth; the locals, the last first]
