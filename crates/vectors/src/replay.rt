@@ -11,8 +11,7 @@ use crate::call::count_after;
 use crate::call::number_at;
 use crate::call::onward;
 use crate::call::places_of;
-use run::Ran;
-use state::State;
+use exports::machine::oracle_run;
 ghost use Rattle.io.specs.Counts.{Counts};
 
 pub struct Compared {
@@ -153,31 +152,6 @@ fn lists_differ<'a>(
     false
 }
 
-fn run_by(
-    call: Call,
-    s: State,
-    m: &mut [u8],
-    values: &mut [u64],
-    widths: &mut [u8],
-    pcs: &mut [u64],
-) -> Ran {
-    let count = call.count as usize;
-    if call.mode == 0 {
-        return run::run_plain(s, call.fuel, m, values, widths, pcs, count);
-    }
-    run::run_deferred(s, call.fuel, m, values, widths, pcs, count)
-}
-
-// Writes what a run leaves, as the host's call does, and answers its code.
-fn leave(r: Ran, state: &mut [u8], answer: &mut [u8]) -> u64 {
-    let stop = r.stop;
-    let after = r.state;
-    let code = refusal::code(stop);
-    layout::writing::write_state(state, after);
-    layout::answer::write_answer(answer, code, r.steps, refusal::particular_at(stop));
-    code
-}
-
 // What the host's call does, but with lists lent.
 fn run_listed(
     line: &[u64; NUMBERS],
@@ -193,17 +167,20 @@ fn run_listed(
     let v = room_within(call.room, &values);
     let w = within(call.room, &widths);
     let p = room_within(call.room, &pcs);
-    let r = run_by(
-        call,
-        layout::reading::read_state(state),
+    let count = oracle_run(
+        state,
         m,
+        answer,
         &mut values[..v],
         &mut widths[..w],
         &mut pcs[..p],
+        call.count as usize,
+        call.fuel,
+        call.mode,
     );
     Called {
-        code: leave(r, state, answer),
-        lists_differ: r.count as u64 != count_after(line, call, places)
+        code: memory::bytes::number_at(answer, 0, 8),
+        lists_differ: count as u64 != count_after(line, call, places)
             || lists_differ(line, call, places, &values, &widths, &pcs),
     }
 }
