@@ -8,7 +8,7 @@ use Rattle.refusal.specs.declared.Stop.the-variants as S
 use Rattle.state.specs.declared.State.{State}
 use Rattle.effect.specs.Notes.{documentNotes}
 use Rattle.execute.specs.World.{worldOf, Stepped}
-use Rattle.execute.specs.Execute.{executeOne}
+use Rattle.given.specs.Given.{executeOne}
 use Rattle.execute.specs.Rules.{documentRules}
 use Rattle.execute.specs.declared.Mode.{Mode}
 use Rattle.instruction.specs.declared.Instruction.{Instruction}

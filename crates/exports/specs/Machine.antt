@@ -9,7 +9,7 @@ use Rattle.refusal.specs.declared.Stop.the-variants as S
 use Rattle.instruction.specs.declared.Instruction.{Instruction}
 use Rattle.effect.specs.Notes.{documentNotes}
 use Rattle.execute.specs.World.{World, worldOf, Stepped}
-use Rattle.execute.specs.Execute.{executeOne}
+use Rattle.given.specs.Given.{executeOne}
 use Rattle.execute.specs.Rules.{documentRules}
 use Rattle.execute.specs.declared.Went.{Went}
 use Rattle.pending.specs.Pending.{Lists, Check}

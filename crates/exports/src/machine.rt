@@ -94,7 +94,7 @@ pub extern "C" fn oracle_execute(
     let choices = Choices {
         mode: mode_of(mode),
     };
-    let r = execute::execute(choices, i, read_state(state), memory);
+    let r = given::execute(choices, i, read_state(state), memory);
     let went = r.went;
     let checks = r.checks;
     let after = r.state;

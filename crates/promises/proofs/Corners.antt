@@ -19,7 +19,8 @@ use Rattle.effect.specs.Operations.{divided, result}
 use Rattle.effect.specs.Effects.{seen, dividing, effect}
 use Rattle.execute.specs.World.{done}
 use Rattle.execute.specs.Modes.{limbsIn, settle}
-use Rattle.execute.specs.Execute.{finish, execute, admits, executeOne}
+use Rattle.execute.specs.Execute.{finish, execute, admits}
+use Rattle.given.specs.Given.{executeOne}
 use Rattle.promises.specs.Corners.{Corner, number, integer, All, paper}
 
 sameZ : ℤ → ℤ → Bool

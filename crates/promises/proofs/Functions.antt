@@ -18,6 +18,7 @@ use Rattle.layout.proofs as layout
 use Rattle.effect.proofs as effect
 use Rattle.deferred.proofs as deferred
 use Rattle.execute.proofs as execute
+use Rattle.given.proofs as given
 use Rattle.step.proofs as step
 use Rattle.run.proofs as run
 use Rattle.host.proofs as host
@@ -377,6 +378,9 @@ layout·answer·write-answer κs a x y = one (λ m. tt & m & x .1 .1)
 pub layout·writing·write-state : Determined layout.writing.write_state.ended layout.writing.write_state.Reads.Learnt
 layout·writing·write-state κs a x y = one (λ m. tt & m & x .1 .1)
 
+pub layout·reading·read : Determined layout.reading.read.ended layout.reading.read.Reads.Learnt
+layout·reading·read κs a x y = one (λ r. r & x .1)
+
 pub layout·reading·read-state : Determined layout.reading.read_state.ended layout.reading.read_state.Reads.Learnt
 layout·reading·read-state κs a x y = one (λ r. r & x .1)
 
@@ -416,14 +420,15 @@ execute·refuse κs a x y = one (λ r. r & x .1)
 pub execute·admits : Determined execute.admits.ended execute.admits.Reads.Learnt
 execute·admits κs a x y = one (λ r. r & x .1)
 
-pub execute·execute : Determined execute.execute.ended execute.execute.Reads.Learnt
-execute·execute κs a x y = asked (λ (s : Stepped). s .checks) (x .0 .checks) (y .0 .checks) (λ (s : Stepped) k. executedOf s k & tt & tt & tt & s .world .memory & tt) refl refl
-
 pub execute·word·obey : Determined execute.word.obey.ended execute.word.obey.Reads.Learnt
 execute·word·obey κs a x y =
     asked (λ (s : Stepped). s .checks) (x .0 .checks) (y .0 .checks)
     (λ (s : Stepped) k. let R = s .world .registers in advanceOf s k & tt & tt & R .values & R .accumulated & R .bounds & s .world .memory & tt)
     refl refl
+
+-- ---- given
+pub given·execute : Determined given.execute.ended given.execute.Reads.Learnt
+given·execute κs a x y = asked (λ (s : Stepped). s .checks) (x .0 .checks) (y .0 .checks) (λ (s : Stepped) k. executedOf s k & tt & tt & tt & s .world .memory & tt) refl refl
 
 -- ---- step
 pub step·takes : Determined step.takes.ended step.takes.Reads.Learnt

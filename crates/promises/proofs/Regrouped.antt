@@ -1,7 +1,7 @@
 -- The records in which a promise gathers what a call leaves, taken apart again; the checks apart, which a promise has as a list.
 use Rattle.execute.specs.World.{Stepped}
 use Rattle.execute.specs.declared.Advance.{Advance}
-use Rattle.execute.specs.declared.Executed.{Executed}
+use Rattle.given.specs.declared.Executed.{Executed}
 use Rattle.step.specs.Step.{Left}
 use Rattle.run.specs.Run.{Answer}
 use Rattle.step.specs.Leg.{Leg}

@@ -22,7 +22,7 @@ use Rattle.normalize.specs.Normalizing.{normalizeAndWrite}
 use Rattle.normalize.specs.declared.NormalizationResult.{NormalizationResult}
 use Rattle.effect.specs.Notes.{documentNotes}
 use Rattle.execute.specs.World.{World, world}
-use Rattle.execute.specs.Execute.{executeOne}
+use Rattle.given.specs.Given.{executeOne}
 use Rattle.execute.specs.declared.Mode.the-variants.{Plain}
 
 pub data Corner : Type 0 where

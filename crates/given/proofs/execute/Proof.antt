@@ -1,9 +1,9 @@
-use Rattle.execute.proofs.Admitting.{not-admitted, not-encoded, encoded}
+use Rattle.given.proofs.Encoding.{not-admitted, not-encoded, encoded}
 use borrow.Author.Tests.{not-true, not-false}
 use mathlib.Core.Path.{sym, _∙_}
 use borrow.Author.Needs.{needs}
-use Rattle.execute.proofs.execute.Statement.{statement}
-use Rattle.execute.proofs.execute.Tie as tie
+use Rattle.given.proofs.execute.Statement.{statement}
+use Rattle.given.proofs.execute.Tie as tie
 
 admits-requires : tie.Need-admits-requires
 admits-requires c κs = tt

@@ -1,6 +1,6 @@
 use borrow.Author.Needs.{needs}
-use Rattle.execute.proofs.execute_word.Statement.{statement}
-use Rattle.execute.proofs.execute_word.Tie as tie
+use Rattle.given.proofs.execute_word.Statement.{statement}
+use Rattle.given.proofs.execute_word.Tie as tie
 
 obey-requires : tie.Need-obey-requires
 obey-requires c κs = tt
