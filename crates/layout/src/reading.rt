@@ -117,13 +117,7 @@ pub fn read(bytes: &[u8]) -> Reading
     }
     let pc = number_at(bytes, 0, 8);
     let halted = number_at(bytes, 8, 1) == 1;
-    let state = State {
-        pc,
-        halted,
-        regs,
-        accumulated,
-        bounds,
-    };
+    let state = state::together(pc, halted, regs, accumulated, bounds);
     Reading { state, laid }
 }
 

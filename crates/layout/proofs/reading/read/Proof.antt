@@ -90,16 +90,20 @@ number-at-requires c κs = search needs
 number-at-requires-2 : tie.Need-number-at-requires-2 Inv-loop μ-loop
 number-at-requires-2 c κs = search needs
 
+together-requires : tie.Need-together-requires Inv-loop μ-loop
+together-requires c κs = tt
+
 returns : tie.Need-returns Inv-loop μ-loop
 unfolding stateIn wellLaid
 returns c =
-    let b = now (c .before .before .before .before .before .before .args .bytes) in
-    let l = c .before .before .before .loop in
+    let b = now (c .before .before .before .before .before .before .before .args .bytes) in
+    let l = c .before .before .before .before .loop in
     let end : l .i ≡ 16 = omega arith in
-    let laid : l .laid ≡ wellLaid b = (rw end at (l .inv .4)) ∙ rw (c .before .before .before .before .header-laid .ensures) (and-comm (allBelow (recordLaid b) 16) (headerLaid b)) in
+    let laid : l .laid ≡ wellLaid b = (rw end at (l .inv .4)) ∙ rw (c .before .before .before .before .before .header-laid .ensures) (and-comm (allBelow (recordLaid b) 16) (headerLaid b)) in
     rw (
-      c .before .number-at .ensures,
-      c .number-at2 .ensures,
+      c .together .ensures,
+      c .before .before .number-at .ensures,
+      c .before .number-at2 .ensures,
       filled 16 (l .regs) (replicate 16 0) (l .i) (λ k. kept (heldIn b k)) (omega arith) refl (l .inv .1),
       filled 16 (l .accumulated) (replicate 16 false) (l .i) (λ k. waits (heldIn b k)) (omega arith) refl (l .inv .2),
       filled 16 (l .bounds) (replicate 16 0) (l .i) (boundIn b) (omega arith) refl (l .inv .3),
@@ -129,4 +133,5 @@ read-spec =
     loop-again
     number-at-requires
     number-at-requires-2
+    together-requires
     returns)
