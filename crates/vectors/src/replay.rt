@@ -185,7 +185,25 @@ fn run_listed(
     }
 }
 
-// Makes the call on as much of the buffers as it is lent.
+// Makes the call on what it is lent.
+fn called_on(
+    line: &[u64; NUMBERS],
+    call: Call,
+    places: Places,
+    state: &mut [u8],
+    m: &mut [u8],
+    answer: &mut [u8],
+) -> Called {
+    if call.is_listed {
+        return run_listed(line, call, places, state, m, answer);
+    }
+    Called {
+        code: host::zkir_run(state, m, answer, call.fuel, call.mode),
+        lists_differ: false,
+    }
+}
+
+// Lends it as much of the buffers as it asks for.
 fn make(
     line: &[u64; NUMBERS],
     call: Call,
@@ -197,27 +215,14 @@ fn make(
     let s = within(call.state, state);
     let m = within(call.memory, memory);
     let a = within(call.answer, answer);
-    if call.is_listed {
-        return run_listed(
-            line,
-            call,
-            places,
-            &mut state[..s],
-            &mut memory[..m],
-            &mut answer[..a],
-        );
-    }
-    let code = host::zkir_run(
+    called_on(
+        line,
+        call,
+        places,
         &mut state[..s],
         &mut memory[..m],
         &mut answer[..a],
-        call.fuel,
-        call.mode,
-    );
-    Called {
-        code,
-        lists_differ: false,
-    }
+    )
 }
 
 // The opcode at the pc of a state, 0 where no step is completed.
