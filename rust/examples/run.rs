@@ -10,7 +10,7 @@ use std::io::Read;
 use std::path::Path;
 use std::process::ExitCode;
 
-use yokeglimmer::{run, Mode, Register, State, REGISTERS};
+use yokeglimmer::{run, Mode, State};
 
 const MEMORY_BYTES: usize = 65_536;
 const FUEL: u64 = 1_000_000;
@@ -30,8 +30,7 @@ fn main() -> ExitCode {
     for mode in [Mode::Plain, Mode::Deferred] {
         let mut state = State::new(0);
         let answer = run(&mut state, &mut memory.clone(), FUEL, mode);
-        println!("{mode:?}: {answer}, pc: {}", state.pc());
-        print_registers(&state);
+        println!("{mode}: {answer}\n{state}");
     }
     ExitCode::SUCCESS
 }
@@ -46,18 +45,6 @@ fn load(path: &Path) -> Result<Vec<u8>, String> {
     }
     memory.resize(MEMORY_BYTES, 0);
     Ok(memory)
-}
-
-/// Each register that isn't fresh: its value, its bound, and its limbs where it has them.
-fn print_registers(state: &State) {
-    for n in 0..REGISTERS {
-        let (value, bound) = (state.value(n), state.bound(n));
-        match state.register(n) {
-            Register::Whole(0) if bound == 0 => {}
-            Register::Whole(_) => println!("  R{n} = {value}, bound {bound}"),
-            Register::Accumulated { low, high } => println!("  R{n} = {value}, bound {bound}, limbs {low} and {high}"),
-        }
-    }
 }
 
 fn fail(why: &str) -> ExitCode {
