@@ -85,6 +85,13 @@ in_the_repository() {
     expect_asked 4 "with a source changed"
 }
 
+at_a_terminal() {
+    touch "$work/repository/crates/memory/src/lib.rt"
+    cd "$work/repository/rust"
+    script -qec 'cargo build --offline' /dev/null >"$work/said" 2>&1 </dev/null || fail "the crate, at a terminal"
+    grep -q 'yokeglimmer: proving the crate host for its archive: about' "$work/said" || fail "nothing is said while it proves"
+}
+
 interrupted() {
     touch "$work/slow" "$work/repository/crates/memory/src/lib.rt"
     cd "$work/repository"
@@ -106,5 +113,6 @@ without_archives() {
 
 in_a_workspace
 in_the_repository
+if command -v script >/dev/null; then at_a_terminal; fi
 interrupted
 without_archives
