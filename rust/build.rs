@@ -1,17 +1,15 @@
-// Finds or builds the archives that export the run and the step, and links them.
+// Finds or makes the archives that export the run and the step, copies them into OUT_DIR, and links them.
 //
-// ZKIR_ARCHIVE names the run's, ZKIR_STEP_ARCHIVE the step's; a relative path counts from the repository's root. One
-// that isn't named is made from the crate `host` or `lent` beside this package: by `rt staticlib` for x86-64, which is
-// what is delivered; by `tools/native` on Arm. One that is younger than all it is made from is taken as it is, since rt
-// would prove the crate anew for each profile.
+// ZKIR_ARCHIVE names the run's, ZKIR_STEP_ARCHIVE the step's; a relative path counts from the folder above this package.
+// One that isn't named is taken from the folder `lib` there, which a distribution has (tools/dist). In the repository
+// tools/archives makes it, in the repository's target/ and not in OUT_DIR: a proof takes long, and its archive serves every
+// profile. It is made again only where a source of it has changed.
 
 use std::env;
-use std::io;
+use std::fs;
 use std::path::{Path, PathBuf};
 use std::process::{exit, Command};
-use std::time::SystemTime;
-
-const SOURCES: [&str; 3] = ["crates.txt", "crates", "tools/native"];
+use std::time::Instant;
 
 /// A call, the crate whose archive exports it, and the variable that may name the archive.
 struct Call {
@@ -24,22 +22,28 @@ const RUN: Call = Call { name: "zkir_run", of: "host", variable: "ZKIR_ARCHIVE" 
 const STEP: Call = Call { name: "zkir_step", of: "lent", variable: "ZKIR_STEP_ARCHIVE" };
 
 fn main() {
-    let root = Path::new(&variable("CARGO_MANIFEST_DIR")).join("..");
-    link(&archive(&RUN, &root));
+    println!("cargo:rerun-if-changed=build.rs");
+    let above = Path::new(&variable("CARGO_MANIFEST_DIR")).join("..");
+    link(&RUN, &archive(&RUN, &above));
     if env::var_os("CARGO_FEATURE_STEP").is_some() {
-        link(&archive(&STEP, &root));
+        link(&STEP, &archive(&STEP, &above));
     }
 }
 
-fn archive(call: &Call, root: &Path) -> PathBuf {
+fn archive(call: &Call, above: &Path) -> PathBuf {
     println!("cargo:rerun-if-env-changed={}", call.variable);
-    match env::var_os(call.variable).filter(|named| !named.is_empty()) {
-        Some(named) => named_archive(call, root.join(named)),
-        None => made_archive(call, root),
+    let delivered = above.join("lib").join(format!("lib{}.a", call.name));
+    if let Some(named) = env::var_os(call.variable).filter(|named| !named.is_empty()) {
+        existing(call, above.join(named))
+    } else if delivered.is_file() {
+        refuse_other_processors(call);
+        existing(call, delivered)
+    } else {
+        made(call, above)
     }
 }
 
-fn named_archive(call: &Call, archive: PathBuf) -> PathBuf {
+fn existing(call: &Call, archive: PathBuf) -> PathBuf {
     if !archive.is_file() {
         fail(&format!("{}: no file {}", call.variable, archive.display()));
     }
@@ -47,22 +51,42 @@ fn named_archive(call: &Call, archive: PathBuf) -> PathBuf {
     archive
 }
 
-// The sources are watched and not the archive: that one is younger than this script's start, so it would run each time.
-fn made_archive(call: &Call, root: &Path) -> PathBuf {
-    for source in SOURCES {
-        println!("cargo:rerun-if-changed={}", root.join(source).display());
+fn refuse_other_processors(call: &Call) {
+    let (os, processor) = (variable("CARGO_CFG_TARGET_OS"), variable("CARGO_CFG_TARGET_ARCH"));
+    if (os.as_str(), processor.as_str()) != ("linux", "x86_64") {
+        fail(&format!("lib/lib{}.a is for x86-64 Linux, not for {os} on {processor}", call.name));
     }
+}
+
+fn made(call: &Call, above: &Path) -> PathBuf {
+    let tool = above.join("tools/archives");
+    if !tool.is_file() {
+        fail(&format!(
+            "there is no archive: set {} to one that exports {}, or take a distribution or the repository",
+            call.variable, call.name
+        ));
+    }
+    let folder = folder_of_made(call);
+    for source in said_by(Command::new(&tool).args(["--sources", call.of])).lines() {
+        println!("cargo:rerun-if-changed={}", above.join(source).display());
+    }
+    if !Command::new(&tool).args(["--is-made", call.of]).status().map_or(false, |status| status.success()) {
+        make(call, &tool);
+    }
+    above.join(folder).join(format!("lib{}.a", call.of))
+}
+
+fn folder_of_made(call: &Call) -> &'static str {
     let (os, processor, host) = (variable("CARGO_CFG_TARGET_OS"), variable("CARGO_CFG_TARGET_ARCH"), variable("HOST"));
     match (os.as_str(), processor.as_str()) {
-        ("linux", "x86_64") => make(call, root, "target/staticlib", Command::new("rt").arg("staticlib")),
+        ("linux", "x86_64") => "target/staticlib",
         ("linux", "aarch64") if host.starts_with("aarch64") => {
-            let archive = make(call, root, "target/native", &mut Command::new(root.join("tools/native")));
             println!(
                 "cargo:warning=target/native/lib{}.a is linked, for testing: the proved LLVM module, compiled for \
                  aarch64; what is delivered is x86-64",
                 call.of
             );
-            archive
+            "target/native"
         }
         _ => fail(&format!(
             "no archive can be made for {os} on {processor} here ({host}): rt makes them for x86-64 Linux; \
@@ -72,45 +96,47 @@ fn made_archive(call: &Call, root: &Path) -> PathBuf {
     }
 }
 
-fn make(call: &Call, root: &Path, folder: &str, command: &mut Command) -> PathBuf {
-    let archive = root.join(folder).join(format!("lib{}.a", call.of));
-    if is_young(&archive, root) {
-        return archive;
-    }
-    let named = format!("{} can name an archive of the crate {}", call.variable, call.of);
-    match command.arg(call.of).current_dir(root).status() {
-        Ok(status) if status.success() => archive,
-        Ok(status) => fail(&format!("{command:?} failed ({status}) and said why; {named}")),
-        Err(error) => {
-            fail(&format!("{command:?} does not start ({error}): put the Rattle kit's rt on PATH; or {named}"))
-        }
+fn make(call: &Call, tool: &Path) {
+    tell(&format!(
+        "proving the crate {} for its archive: about half a minute, some minutes the first time; {} can name an archive",
+        call.of, call.variable
+    ));
+    let started = Instant::now();
+    said_by(Command::new(tool).arg(call.of));
+    println!(
+        "cargo:warning=the crate {} was proved for its archive, in {} s; that is done again where a source has changed",
+        call.of,
+        started.elapsed().as_secs()
+    );
+}
+
+// cargo shows a build script's warnings once it has ended: who waits at a terminal is told there.
+fn tell(what: &str) {
+    let _ = fs::write("/dev/tty", format!("\ryokeglimmer: {what}\n"));
+}
+
+fn said_by(command: &mut Command) -> String {
+    match command.output() {
+        Ok(output) if output.status.success() => String::from_utf8_lossy(&output.stdout).into_owned(),
+        Ok(output) => fail(&format!(
+            "{command:?} failed ({}) and said:\n{}{}",
+            output.status,
+            String::from_utf8_lossy(&output.stdout),
+            String::from_utf8_lossy(&output.stderr)
+        )),
+        Err(error) => fail(&format!("{command:?} does not start ({error})")),
     }
 }
 
-fn is_young(archive: &Path, root: &Path) -> bool {
-    let changed = |path: &Path| last_change(path).ok();
-    let Some(made) = changed(archive) else { return false };
-    SOURCES.iter().all(|source| changed(&root.join(source)).is_some_and(|last| last < made))
-}
-
-/// When the file, or the youngest file or folder in the folder, was changed.
-fn last_change(path: &Path) -> io::Result<SystemTime> {
-    let mut last = path.metadata()?.modified()?;
-    if path.is_dir() {
-        for entry in path.read_dir()? {
-            last = last.max(last_change(&entry?.path())?);
-        }
+// The package's library then holds the archive's code: its users link nothing. The copy is whole or not there.
+fn link(call: &Call, archive: &Path) {
+    let folder = PathBuf::from(variable("OUT_DIR"));
+    let (whole, copy) = (folder.join(format!("lib{}.a", call.name)), folder.join("copy"));
+    if let Err(error) = fs::copy(archive, &copy).and_then(|_| fs::rename(&copy, &whole)) {
+        fail(&format!("{} cannot be copied to {} ({error})", archive.display(), whole.display()));
     }
-    Ok(last)
-}
-
-// `+verbatim`: the file's own name. The package's library then holds the archive's code: its users link nothing.
-fn link(archive: &Path) {
-    let (Some(folder), Some(file)) = (archive.parent(), archive.file_name()) else {
-        fail(&format!("{} is no file", archive.display()));
-    };
     println!("cargo:rustc-link-search=native={}", folder.display());
-    println!("cargo:rustc-link-lib=static:+verbatim={}", file.to_string_lossy());
+    println!("cargo:rustc-link-lib=static={}", call.name);
 }
 
 fn variable(name: &str) -> String {

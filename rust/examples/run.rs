@@ -7,60 +7,55 @@
 
 use std::fs::File;
 use std::io::Read;
-use std::path::Path;
 use std::process::ExitCode;
 
-use yokeglimmer::{run, Mode, Register, State, REGISTERS};
+use yokeglimmer::{run, Mode, State};
 
 const MEMORY_BYTES: usize = 65_536;
 const FUEL: u64 = 1_000_000;
-const SHIPPED: &str = concat!(env!("CARGO_MANIFEST_DIR"), "/../crates/run_plain/stdin");
+
+/// Addi R1,R0,-1; Add R2,R1,R1; Ebreak
+const PROGRAM: [u8; 12] = [0x89, 0x80, 0xff, 0xff, 0x01, 0x89, 0x00, 0x00, 0x32, 0x00, 0x00, 0x00];
 
 fn main() -> ExitCode {
     let named: Vec<String> = std::env::args().skip(1).collect();
-    let path = match &named[..] {
-        [] => SHIPPED,
-        [path] => path,
-        _ => return fail("usage: run [FILE]"),
+    let loaded = match &named[..] {
+        [] => Ok(filled(PROGRAM.to_vec())),
+        [path] => load(path).map_err(|why| format!("{path}: {why}")),
+        _ => Err("usage: run [FILE]".to_string()),
     };
-    let memory = match load(Path::new(path)) {
-        Ok(memory) => memory,
-        Err(why) => return fail(&format!("{path}: {why}")),
-    };
-    for mode in [Mode::Plain, Mode::Deferred] {
-        let mut state = State::new(0);
-        let answer = run(&mut state, &mut memory.clone(), FUEL, mode);
-        println!("{mode:?}: {answer}, pc: {}", state.pc());
-        print_registers(&state);
-    }
-    ExitCode::SUCCESS
-}
-
-/// The file's bytes, then zeros.
-fn load(path: &Path) -> Result<Vec<u8>, String> {
-    let file = File::open(path).map_err(|error| error.to_string())?;
-    let mut memory = Vec::new();
-    file.take(MEMORY_BYTES as u64 + 1).read_to_end(&mut memory).map_err(|error| error.to_string())?;
-    if memory.len() > MEMORY_BYTES {
-        return Err(format!("longer than {MEMORY_BYTES} bytes, which is all of memory"));
-    }
-    memory.resize(MEMORY_BYTES, 0);
-    Ok(memory)
-}
-
-/// Each register that isn't fresh: its value, its bound, and its limbs where it has them.
-fn print_registers(state: &State) {
-    for n in 0..REGISTERS {
-        let (value, bound) = (state.value(n), state.bound(n));
-        match state.register(n) {
-            Register::Whole(0) if bound == 0 => {}
-            Register::Whole(_) => println!("  R{n} = {value}, bound {bound}"),
-            Register::Accumulated { low, high } => println!("  R{n} = {value}, bound {bound}, limbs {low} and {high}"),
+    match loaded {
+        Ok(memory) => {
+            print_runs(&memory);
+            ExitCode::SUCCESS
+        }
+        Err(why) => {
+            eprintln!("run: {why}");
+            ExitCode::FAILURE
         }
     }
 }
 
-fn fail(why: &str) -> ExitCode {
-    eprintln!("run: {why}");
-    ExitCode::FAILURE
+fn print_runs(memory: &[u8]) {
+    for mode in [Mode::Plain, Mode::Deferred] {
+        let mut state = State::new(0);
+        let answer = run(&mut state, &mut memory.to_vec(), FUEL, mode);
+        println!("{mode}: {answer}\n{state}");
+    }
+}
+
+fn load(path: &str) -> Result<Vec<u8>, String> {
+    let file = File::open(path).map_err(|error| error.to_string())?;
+    let mut bytes = Vec::new();
+    file.take(MEMORY_BYTES as u64 + 1).read_to_end(&mut bytes).map_err(|error| error.to_string())?;
+    if bytes.len() > MEMORY_BYTES {
+        return Err(format!("longer than {MEMORY_BYTES} bytes, which is all of memory"));
+    }
+    Ok(filled(bytes))
+}
+
+/// The bytes, then zeros.
+fn filled(mut bytes: Vec<u8>) -> Vec<u8> {
+    bytes.resize(MEMORY_BYTES, 0);
+    bytes
 }

@@ -1,5 +1,10 @@
-/* The host's calls of the proved zkIR core, a run and a single step. They need no library but the archives that
- * `rt staticlib host` (the run's) and `rt staticlib lent` (the step's) make. */
+/* The host's calls of the proved zkIR core, a run and a single step, and what a host needs around them.
+ *
+ * The run is in libzkir_run.a, the step in libzkir_step.a, as a distribution has them (tools/dist); in the repository
+ * `rt staticlib host` and `rt staticlib lent` make them as libhost.a and liblent.a. An archive calls nothing but memcpy, or
+ * another of what a compiler calls by itself: memmove, memset, memcmp. It needs no heap, no file and no thread.
+ *
+ * examples/host.c is a whole host. */
 #ifndef ZKIR_H
 #define ZKIR_H
 
@@ -54,6 +59,90 @@ extern "C" {
 uint64_t zkir_run(uint8_t *state, size_t state_length, uint8_t *memory, size_t memory_length, uint8_t *answer,
                   size_t answer_length, uint64_t fuel, uint64_t mode);
 
+/* ---- What a host writes around the run: numbers in bytes, and a state's fields. Registers are 0 to 15. */
+
+static inline uint64_t zkir_get(const uint8_t *bytes) {
+    uint64_t number = 0;
+    for (int i = 7; i >= 0; i--)
+        number = number << 8 | bytes[i];
+    return number;
+}
+
+static inline void zkir_put(uint8_t *bytes, uint64_t number) {
+    for (int i = 0; i < 8; i++)
+        bytes[i] = (uint8_t)(number >> (8 * i));
+}
+
+/* Not halted, every register whole, 0, with bound 0. */
+static inline void zkir_fresh(uint8_t *state, uint64_t pc) {
+    for (int i = 0; i < ZKIR_STATE_BYTES; i++)
+        state[i] = 0;
+    zkir_put(state, pc);
+}
+
+static inline uint64_t zkir_pc(const uint8_t *state) { return zkir_get(state); }
+
+static inline void zkir_set_pc(uint8_t *state, uint64_t pc) { zkir_put(state, pc); }
+
+static inline int zkir_is_halted(const uint8_t *state) { return state[8]; }
+
+static inline size_t zkir_record(unsigned n) { return ZKIR_HEADER_BYTES + (size_t)ZKIR_RECORD_BYTES * n; }
+
+static inline int zkir_is_accumulated(const uint8_t *state, unsigned n) { return state[zkir_record(n)]; }
+
+static inline unsigned zkir_bound(const uint8_t *state, unsigned n) { return state[zkir_record(n) + 1]; }
+
+/* All 64 bits of a whole register; low + 2^20 * high, modulo 2^40, of an accumulated one. */
+static inline uint64_t zkir_value(const uint8_t *state, unsigned n) {
+    uint64_t first = zkir_get(state + zkir_record(n) + 8), second = zkir_get(state + zkir_record(n) + 16);
+    return zkir_is_accumulated(state, n) ? (first + (second << 20)) & 0xffffffffffu : first;
+}
+
+/* The bits that a number needs, 0 for 0. */
+static inline unsigned zkir_bits(uint64_t number) {
+    unsigned bits = 0;
+    for (; number != 0; number >>= 1)
+        bits++;
+    return bits;
+}
+
+/* Makes the register whole, with the value and the bound that it needs: so a host writes the result of an Ecall. R0 stays
+ * as it is. */
+static inline void zkir_set_value(uint8_t *state, unsigned n, uint64_t value) {
+    if (n == 0)
+        return;
+    state[zkir_record(n)] = 0;
+    state[zkir_record(n) + 1] = (uint8_t)zkir_bits(value);
+    zkir_put(state + zkir_record(n) + 8, value);
+    zkir_put(state + zkir_record(n) + 16, 0);
+}
+
+static inline uint64_t zkir_steps(const uint8_t *answer) { return zkir_get(answer + 8); }
+
+static inline uint64_t zkir_particular(const uint8_t *answer) { return zkir_get(answer + 16); }
+
+/* What a code means. */
+static inline const char *zkir_words(uint64_t code) {
+    switch (code) {
+    case ZKIR_FUEL: return "the fuel is used up";
+    case ZKIR_DIVISOR_ZERO: return "the instruction divides by zero";
+    case ZKIR_BEYOND: return "the access reaches beyond memory";
+    case ZKIR_MISALIGNED: return "the access is not at a multiple of its size";
+    case ZKIR_BAD_OPCODE: return "the word's opcode is 0 or over 50";
+    case ZKIR_UNUSED_BITS:
+        return "the word has bits set that its instruction leaves unused, or a shift amount over 63";
+    case ZKIR_PC_MISALIGNED: return "the pc is not a multiple of 4";
+    case ZKIR_PC_BEYOND: return "the instruction reaches beyond memory";
+    case ZKIR_LIST_FULL: return "the instruction needs a check, and the list of pending checks is full";
+    case ZKIR_MALFORMED: return "an argument is malformed";
+    case ZKIR_EBREAK: return "the program stopped by itself";
+    case ZKIR_ECALL: return "the program asks its host for a service";
+    default: return "no code";
+    }
+}
+
+/* ---- A single step. */
+
 /* The state as a record. Halt mark, kinds and bounds are as above, and so is R0: all zeros. The value of an accumulated
  * register is low + 2^30 * high here. */
 struct zkir_lent {
@@ -63,6 +152,12 @@ struct zkir_lent {
     uint8_t bounds[ZKIR_REGISTERS];
     uint64_t values[ZKIR_REGISTERS];
 };
+
+/* As zkir_value. */
+static inline uint64_t zkir_lent_value(const struct zkir_lent *state, unsigned n) {
+    uint64_t low = state->values[n] & 0x3fffffffu, high = state->values[n] >> 30;
+    return state->kinds[n] ? (low + (high << 20)) & 0xffffffffffu : state->values[n];
+}
 
 /* A pending check: a result, the bits noted of it, which are over 40, and the pc of its instruction. */
 struct zkir_pending {

@@ -1,12 +1,25 @@
 //! Places in the bytes of a state and of an answer. Every number in them is little-endian.
 
 /// A state has sixteen registers, R0 to R15.
+///
+/// ```
+/// let state = yokeglimmer::State::new(0);
+/// assert!((0..yokeglimmer::REGISTERS).all(|n| state.value(n) == 0));
+/// ```
 pub const REGISTERS: usize = 16;
 
-/// A state's bytes: a header of 16, then a record of 24 for each register.
+/// A state's bytes: a header of 16, then a record of 24 for each register ([`State::to_bytes`](crate::State::to_bytes)).
+///
+/// ```
+/// assert_eq!(yokeglimmer::STATE_BYTES, 400);
+/// ```
 pub const STATE_BYTES: usize = HEADER_BYTES + REGISTERS * RECORD_BYTES;
 
-/// An answer's bytes: code, steps and particular, 8 each.
+/// An answer's bytes: code, steps and particular, 8 each ([`raw::run`](crate::raw::run)).
+///
+/// ```
+/// assert_eq!(yokeglimmer::ANSWER_BYTES, 24);
+/// ```
 pub const ANSWER_BYTES: usize = 24;
 
 /// The header: pc (8), halt mark, 7 zeros.

@@ -15,22 +15,51 @@
 //!
 //! // The deferred mode puts the carries off, and means the same number.
 //! let mut deferred = State::new(0);
-//! run(&mut deferred, &mut memory, 1_000, Mode::Deferred);
+//! assert_eq!(run(&mut deferred, &mut memory, 1_000, Mode::Deferred), answer);
 //! assert_eq!(deferred.register(2), Register::Accumulated { low: 2097150, high: 2097150 });
 //! assert_eq!(deferred.value(2), plain.value(2));
 //!
 //! // A refusal says what and where.
 //! let refused = run(&mut State::new(12), &mut memory, 1_000, Mode::Plain);
-//! assert_eq!(refused.to_string(), "refused (7): the instruction at pc 12 reaches beyond memory; steps: 0");
+//! assert_eq!(refused.to_string(), "refused 7: the instruction reaches beyond memory (pc 12); steps: 0");
 //! ```
+//!
+//! A host that serves Ecalls goes on from where the run stopped:
+//!
+//! ```
+//! use yokeglimmer::{run, Mode, Refused, State, Stop};
+//!
+//! fn serve(state: &mut State, memory: &mut [u8]) -> Result<u64, Refused> {
+//!     let mut steps = 0;
+//!     loop {
+//!         let answer = run(state, memory, 1_000, Mode::Plain).or_refused()?;
+//!         steps += answer.steps;
+//!         match answer.stop {
+//!             Stop::Ecall => state.set_value(1, 42).expect("R1 takes any value"),
+//!             _ => return Ok(steps),
+//!         }
+//!     }
+//! }
+//!
+//! // Ecall; Addi R2,R1,1; Ebreak
+//! let mut memory = vec![0x31, 0x00, 0x00, 0x00, 0x09, 0x89, 0x00, 0x00, 0x32, 0x00, 0x00, 0x00];
+//! let mut state = State::new(0);
+//! assert_eq!(serve(&mut state, &mut memory), Ok(3));
+//! assert_eq!(state.value(2), 43);
+//! ```
+#![deny(missing_docs)]
 
 mod bytes;
 #[cfg(feature = "step")]
 mod checks;
 mod layout;
-mod malformed;
+mod mode;
+#[cfg(doctest)]
+mod must_not_compile;
 pub mod raw;
+#[cfg(feature = "step")]
 mod record;
+mod rule;
 mod state;
 #[cfg(feature = "step")]
 mod step;
@@ -39,33 +68,34 @@ mod stop;
 #[cfg(feature = "step")]
 pub use checks::Checks;
 pub use layout::{ANSWER_BYTES, REGISTERS, STATE_BYTES};
-pub use malformed::{Malformed, MalformedBytes};
+pub use mode::Mode;
+#[cfg(feature = "step")]
 pub use record::Pending;
+pub use rule::{BrokenRule, MalformedBytes};
 pub use state::{Register, State};
 #[cfg(feature = "step")]
 pub use step::{step, Stepped};
-pub use stop::{Answer, Refusal, Stop};
-
-/// How sums and differences are kept.
-#[derive(Clone, Copy, Debug, PartialEq, Eq, Hash)]
-pub enum Mode {
-    /// Whole, carried at once.
-    Plain = 0,
-    /// In two limbs, with the carries put off until another instruction reads the register.
-    Deferred = 1,
-}
+pub use stop::{Answer, Refusal, Refused, Stop};
 
 /// Runs from the state's pc until the fuel is used up, an Ebreak, an Ecall or a refusal. Memory begins at address 0 and
 /// holds the program too.
 ///
 /// A plain run of a state with an accumulated register is refused, [`Refusal::Malformed`], and changes nothing.
 ///
+/// ```
+/// use yokeglimmer::{run, Mode, State, Stop};
+///
+/// let mut memory = [0x2f, 0, 0, 0]; // Jal R0,0: for ever
+/// let answer = run(&mut State::new(0), &mut memory, 1_000_000, Mode::Plain);
+/// assert_eq!((answer.stop, answer.steps), (Stop::Fuel, 1_000_000));
+/// ```
+///
 /// # Panics
 ///
 /// If the archive gives an answer that the rules have not, which is proved not to happen: then another one is linked.
 pub fn run(state: &mut State, memory: &mut [u8], fuel: u64, mode: Mode) -> Answer {
     let mut answer = [0; ANSWER_BYTES];
-    raw::run(&mut state.bytes, memory, &mut answer, fuel, mode as u64);
+    raw::run(&mut state.bytes, memory, &mut answer, fuel, mode.into());
     let [code, steps, particular] = [0, 8, 16].map(|at| layout::number(&answer, at));
     match Stop::of(code, particular) {
         Some(stop) => Answer { stop, steps },

@@ -9,8 +9,17 @@ use crate::state::State;
 use crate::stop::{Refusal, Stop};
 use crate::Mode;
 
-/// What a step did.
+/// What a step did. Later versions may have more.
+///
+/// ```
+/// use yokeglimmer::{step, Checks, Mode, State, Stepped};
+///
+/// let stepped = step(&mut State::new(0), &mut [0x32, 0, 0, 0], Mode::Plain, &mut Checks::none());
+/// assert_eq!((stepped, stepped.to_string()), (Stepped::Ebreak, "ebreak: the program stopped by itself".to_string()));
+/// ```
 #[derive(Clone, Copy, Debug, PartialEq, Eq, Hash)]
+#[must_use]
+#[non_exhaustive]
 pub enum Stepped {
     /// The instruction is completed and the pc is at the next.
     On,
@@ -24,12 +33,40 @@ pub enum Stepped {
 
 impl Stepped {
     /// The stop of a run that comes so far, if it stops there.
+    ///
+    /// ```
+    /// use yokeglimmer::{Stepped, Stop};
+    ///
+    /// assert_eq!((Stepped::On.stop(), Stepped::Ecall.stop()), (None, Some(Stop::Ecall)));
+    /// ```
     pub fn stop(self) -> Option<Stop> {
         match self {
             Stepped::On => None,
             Stepped::Ebreak => Some(Stop::Ebreak),
             Stepped::Ecall => Some(Stop::Ecall),
             Stepped::Refused(refusal) => Some(Stop::Refused(refusal)),
+        }
+    }
+
+    /// For `?`: the refusal as an error.
+    ///
+    /// ```
+    /// use yokeglimmer::{step, Checks, Mode, Refusal, State, Stepped};
+    ///
+    /// fn steps_until_ebreak(state: &mut State, memory: &mut [u8]) -> Result<u64, Refusal> {
+    ///     let mut steps = 1;
+    ///     while step(state, memory, Mode::Plain, &mut Checks::none()).or_refused()? != Stepped::Ebreak {
+    ///         steps += 1;
+    ///     }
+    ///     Ok(steps)
+    /// }
+    /// assert_eq!(steps_until_ebreak(&mut State::new(0), &mut [0x32, 0, 0, 0]), Ok(1));
+    /// assert_eq!(steps_until_ebreak(&mut State::new(4), &mut [0x32, 0, 0, 0]), Err(Refusal::PcBeyond { pc: 4 }));
+    /// ```
+    pub fn or_refused(self) -> Result<Stepped, Refusal> {
+        match self {
+            Stepped::Refused(refusal) => Err(refusal),
+            _ => Ok(self),
         }
     }
 
@@ -81,11 +118,13 @@ impl fmt::Display for Stepped {
 /// step leaves a well-formed state is `StepsKeep` in `crates/agreement`.)
 pub fn step(state: &mut State, memory: &mut [u8], mode: Mode, checks: &mut Checks<'_>) -> Stepped {
     let mut lent = Lent::from(&*state);
-    let answer = raw::step(&mut lent, memory, checks.room, checks.count, mode as u64);
-    let (Some(stepped), Ok(after)) = (Stepped::of(answer.code, answer.particular), State::try_from(&lent)) else {
-        panic!("the archive answered {answer:?} and left {lent:?}, which is no step");
-    };
-    *state = after;
-    checks.count = answer.count;
-    stepped
+    let answer = raw::step(&mut lent, memory, checks.room, checks.count, mode.into());
+    match (Stepped::of(answer.code, answer.particular), State::try_from(&lent)) {
+        (Some(stepped), Ok(after)) => {
+            *state = after;
+            checks.count = answer.count;
+            stepped
+        }
+        _ => panic!("the archive answered {answer:?} and left {lent:?}, which is no step"),
+    }
 }

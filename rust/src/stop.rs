@@ -3,8 +3,20 @@
 use std::error::Error;
 use std::fmt;
 
-/// Why a step or a call is refused, in the order of the refusals' numbers, 1 to 9.
+/// Why a step or a call is refused, in the order of the refusals' numbers. Later versions have more.
+///
+/// ```
+/// use yokeglimmer::{run, Mode, Refusal, State, Stop};
+///
+/// // Addi R1,R0,1; Div R2,R1,R0
+/// let mut memory = [0x89, 0x80, 0x00, 0x00, 0x05, 0x09, 0x00, 0x00];
+/// let answer = run(&mut State::new(0), &mut memory, 10, Mode::Plain);
+/// assert_eq!(answer.stop, Stop::Refused(Refusal::DivisorZero { pc: 4 }));
+/// assert_eq!(answer.stop.to_string(), "refused 1: the instruction divides by zero (pc 4)");
+/// ```
 #[derive(Clone, Copy, Debug, PartialEq, Eq, Hash)]
+#[non_exhaustive]
+#[allow(missing_docs)] // of the fields: each is the particular
 pub enum Refusal {
     /// The instruction at the pc divides by zero.
     DivisorZero { pc: u64 },
@@ -28,6 +40,10 @@ pub enum Refusal {
 
 impl Refusal {
     /// 1 to 9.
+    ///
+    /// ```
+    /// assert_eq!(yokeglimmer::Refusal::Misaligned { address: 7 }.number(), 3);
+    /// ```
     pub fn number(self) -> u64 {
         match self {
             Refusal::DivisorZero { .. } => 1,
@@ -43,6 +59,10 @@ impl Refusal {
     }
 
     /// The pc, the address or the word that the refusal names; 0 where it names none.
+    ///
+    /// ```
+    /// assert_eq!(yokeglimmer::Refusal::Misaligned { address: 7 }.particular(), 7);
+    /// ```
     pub fn particular(self) -> u64 {
         match self {
             Refusal::DivisorZero { pc }
@@ -73,37 +93,47 @@ impl Refusal {
     }
 }
 
+// The words are those of docs/stops.txt.
 impl fmt::Display for Refusal {
     fn fmt(&self, f: &mut fmt::Formatter<'_>) -> fmt::Result {
-        write!(f, "refused ({}): ", self.number())?;
+        write!(f, "refused {}: ", self.number())?;
         match self {
-            Refusal::DivisorZero { pc } => write!(f, "the instruction at pc {pc} divides by zero"),
-            Refusal::Beyond { address } => write!(f, "the access at address {address} reaches beyond memory"),
+            Refusal::DivisorZero { pc } => write!(f, "the instruction divides by zero (pc {pc})"),
+            Refusal::Beyond { address } => write!(f, "the access reaches beyond memory (address {address})"),
             Refusal::Misaligned { address } => {
-                write!(f, "the access at address {address} is not at a multiple of its size")
+                write!(f, "the access is not at a multiple of its size (address {address})")
             }
-            Refusal::BadOpcode { word } => {
-                write!(f, "the word 0x{word:08x} has the opcode {}, and opcodes are 1 to 50", word % 128)
-            }
-            Refusal::UnusedBits { word } => {
-                write!(f, "the word 0x{word:08x} has unused bits set or a shift amount over 63")
-            }
-            Refusal::PcMisaligned { pc } => write!(f, "the pc {pc} is not a multiple of 4"),
-            Refusal::PcBeyond { pc } => write!(f, "the instruction at pc {pc} reaches beyond memory"),
+            Refusal::BadOpcode { word } => write!(f, "the word's opcode is 0 or over 50 (word 0x{word:08x})"),
+            Refusal::UnusedBits { word } => write!(
+                f,
+                "the word has bits set that its instruction leaves unused, or a shift amount over 63 (word 0x{word:08x})"
+            ),
+            Refusal::PcMisaligned { pc } => write!(f, "the pc is not a multiple of 4 (pc {pc})"),
+            Refusal::PcBeyond { pc } => write!(f, "the instruction reaches beyond memory (pc {pc})"),
             Refusal::ListFull { pc } => {
-                write!(f, "the instruction at pc {pc} needs a check, and the list of pending checks is full")
+                write!(f, "the instruction needs a check, and the list of pending checks is full (pc {pc})")
             }
-            Refusal::Malformed => {
-                write!(f, "an argument is malformed, as an accumulated register is in a plain run")
-            }
+            Refusal::Malformed => write!(f, "an argument is malformed"),
         }
     }
 }
 
 impl Error for Refusal {}
 
-/// Why a run stopped.
+/// Why a run stopped. Later versions may have more.
+///
+/// ```
+/// use yokeglimmer::{run, Mode, State, Stop};
+///
+/// let answer = run(&mut State::new(0), &mut [0x31, 0, 0, 0], 10, Mode::Plain);
+/// match answer.stop {
+///     Stop::Ecall => println!("serve it, and run again"),
+///     Stop::Refused(refusal) => panic!("{refusal}"),
+///     stop => panic!("{stop}"),
+/// }
+/// ```
 #[derive(Clone, Copy, Debug, PartialEq, Eq, Hash)]
+#[non_exhaustive]
 pub enum Stop {
     /// The fuel is used up.
     Fuel,
@@ -117,6 +147,10 @@ pub enum Stop {
 
 impl Stop {
     /// The code by which the call tells the stop: 0 fuel, 1 to 9 refusals, 64 Ebreak, 65 Ecall.
+    ///
+    /// ```
+    /// assert_eq!(yokeglimmer::Stop::Ebreak.code(), 64);
+    /// ```
     pub fn code(self) -> u64 {
         match self {
             Stop::Fuel => 0,
@@ -140,24 +174,86 @@ impl Stop {
 impl fmt::Display for Stop {
     fn fmt(&self, f: &mut fmt::Formatter<'_>) -> fmt::Result {
         match self {
-            Stop::Fuel => write!(f, "stopped as the fuel is used up"),
-            Stop::Ebreak => write!(f, "stopped at an Ebreak"),
-            Stop::Ecall => write!(f, "stopped at an Ecall"),
+            Stop::Fuel => write!(f, "fuel: the fuel is used up"),
+            Stop::Ebreak => write!(f, "ebreak: the program stopped by itself"),
+            Stop::Ecall => write!(f, "ecall: the program asks its host for a service"),
             Stop::Refused(refusal) => refusal.fmt(f),
         }
     }
 }
 
-/// What a run answers.
+/// What a run answers. Later versions tell more.
+///
+/// ```
+/// use yokeglimmer::{run, Mode, State, Stop};
+///
+/// let answer = run(&mut State::new(0), &mut [0x32, 0, 0, 0], 10, Mode::Plain);
+/// assert_eq!((answer.stop, answer.steps), (Stop::Ebreak, 1));
+/// assert_eq!(answer.to_string(), "ebreak: the program stopped by itself; steps: 1");
+/// ```
 #[derive(Clone, Copy, Debug, PartialEq, Eq, Hash)]
+#[must_use]
+#[non_exhaustive]
 pub struct Answer {
+    /// Why the run stopped.
     pub stop: Stop,
     /// The instructions completed, never more than the fuel. Ebreak and Ecall count, a refused one doesn't.
     pub steps: u64,
 }
 
+impl Answer {
+    /// For `?`: the answer of a run that was not refused; else the refusal, with what was done before it. The state and the
+    /// memory are as the completed instructions left them, either way.
+    ///
+    /// ```
+    /// use yokeglimmer::{run, Mode, Refused, State};
+    ///
+    /// fn steps_of(memory: &mut [u8]) -> Result<u64, Refused> {
+    ///     Ok(run(&mut State::new(0), memory, 1_000, Mode::Plain).or_refused()?.steps)
+    /// }
+    /// assert_eq!(steps_of(&mut [0x32, 0, 0, 0]), Ok(1));
+    /// ```
+    pub fn or_refused(self) -> Result<Answer, Refused> {
+        match self.stop {
+            Stop::Refused(refusal) => Err(Refused { refusal, steps: self.steps }),
+            _ => Ok(self),
+        }
+    }
+}
+
 impl fmt::Display for Answer {
     fn fmt(&self, f: &mut fmt::Formatter<'_>) -> fmt::Result {
         write!(f, "{}; steps: {}", self.stop, self.steps)
+    }
+}
+
+/// The error of a run that was refused. Later versions tell more.
+///
+/// ```
+/// use yokeglimmer::{run, Mode, Refusal, State};
+///
+/// let mut memory = [0x89, 0x80, 0x03, 0x00]; // Addi R1,R0,7, and nothing behind it
+/// let refused = run(&mut State::new(0), &mut memory, 10, Mode::Plain).or_refused().unwrap_err();
+/// assert_eq!((refused.refusal, refused.steps), (Refusal::PcBeyond { pc: 4 }, 1));
+/// assert_eq!(refused.to_string(), "refused 7: the instruction reaches beyond memory (pc 4); steps: 1");
+/// ```
+#[derive(Clone, Copy, Debug, PartialEq, Eq, Hash)]
+#[non_exhaustive]
+pub struct Refused {
+    /// Why the instruction at the pc was refused.
+    pub refusal: Refusal,
+    /// The instructions completed before it.
+    pub steps: u64,
+}
+
+impl fmt::Display for Refused {
+    fn fmt(&self, f: &mut fmt::Formatter<'_>) -> fmt::Result {
+        write!(f, "{}; steps: {}", self.refusal, self.steps)
+    }
+}
+
+impl Error for Refused {
+    fn source(&self) -> Option<&(dyn Error + 'static)> {
+        Some(&self.refusal)
     }
 }

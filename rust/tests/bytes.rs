@@ -3,7 +3,7 @@
 mod common;
 
 use common::{any_state, Random};
-use yokeglimmer::{raw, Malformed, MalformedBytes, Register, State, ANSWER_BYTES, STATE_BYTES};
+use yokeglimmer::{raw, BrokenRule, MalformedBytes, Register, State, ANSWER_BYTES, STATE_BYTES};
 
 const LIMIT: u64 = 1 << 30;
 
@@ -29,66 +29,68 @@ fn the_bytes_of_a_state() {
     expected[80..84].copy_from_slice(&[0xff, 0xff, 0xff, 0x3f]);
     assert_eq!(state().to_bytes(), expected);
     assert_eq!(State::try_from(&expected[..]), Ok(state()));
+    assert_eq!(State::try_from(&expected), Ok(state()));
+    assert_eq!(State::try_from(expected), Ok(state()));
 }
 
 #[test]
 fn bytes_of_another_length() {
     for (length, at) in [(0, 0), (399, 399), (401, 400), (408, 400)] {
-        let rule = Malformed::Length { bytes: length };
+        let rule = BrokenRule::Length { bytes: length };
         assert_eq!(State::try_from(&vec![0; length][..]), Err(MalformedBytes { at, rule }));
     }
 }
 
 #[test]
 fn each_rule_has_its_error_with_the_byte() {
-    let cases: [(usize, u8, usize, Malformed, &str); 13] = [
-        (8, 2, 8, Malformed::HaltMark { byte: 2 }, "at byte 8: the halt mark is 2, and may be 0 or 1"),
-        (9, 1, 9, Malformed::Filler { byte: 1 }, "at byte 9: the filler is 1, and must be 0"),
-        (15, 7, 15, Malformed::Filler { byte: 7 }, "at byte 15: the filler is 7, and must be 0"),
-        (16, 1, 16, Malformed::ZeroRegister, "at byte 16: R0 is always whole, zero, with bound 0"),
-        (17, 1, 16, Malformed::ZeroRegister, "at byte 16: R0 is always whole, zero, with bound 0"),
-        (31, 1, 16, Malformed::ZeroRegister, "at byte 16: R0 is always whole, zero, with bound 0"),
+    let cases: [(usize, u8, usize, BrokenRule, &str); 13] = [
+        (8, 2, 8, BrokenRule::HaltMark { byte: 2 }, "at byte 8: the halt mark is 2, and may be 0 or 1"),
+        (9, 1, 9, BrokenRule::Filler { byte: 1 }, "at byte 9: the filler is 1, and must be 0"),
+        (15, 7, 15, BrokenRule::Filler { byte: 7 }, "at byte 15: the filler is 7, and must be 0"),
+        (16, 1, 16, BrokenRule::ZeroRegister, "at byte 16: R0 is always whole, zero, with bound 0"),
+        (17, 1, 16, BrokenRule::ZeroRegister, "at byte 16: R0 is always whole, zero, with bound 0"),
+        (31, 1, 16, BrokenRule::ZeroRegister, "at byte 16: R0 is always whole, zero, with bound 0"),
         (
             40,
             2,
             40,
-            Malformed::Kind { register: 1, byte: 2 },
+            BrokenRule::Kind { register: 1, byte: 2 },
             "at byte 40: R1 has the kind 2, and kinds are 0 (whole) and 1 (accumulated)",
         ),
         (
             40,
             1,
             48,
-            Malformed::Limb { register: 1, limb: u64::MAX },
+            BrokenRule::Limb { register: 1, limb: u64::MAX },
             "at byte 48: R1 has a limb of 18446744073709551615, and limbs are below 2^30",
         ),
         (
             41,
             65,
             41,
-            Malformed::Bound { register: 1, bound: 65 },
+            BrokenRule::Bound { register: 1, bound: 65 },
             "at byte 41: R1 has the bound 65, and bounds are 0 to 64",
         ),
-        (42, 255, 42, Malformed::Filler { byte: 255 }, "at byte 42: the filler is 255, and must be 0"),
+        (42, 255, 42, BrokenRule::Filler { byte: 255 }, "at byte 42: the filler is 255, and must be 0"),
         (
             57,
             1,
             56,
-            Malformed::SecondNumber { register: 1, number: 256 },
+            BrokenRule::SecondNumber { register: 1, number: 256 },
             "at byte 56: R1 is whole and has the second number 256, which must be 0",
         ),
         (
             75,
             0x40,
             72,
-            Malformed::Limb { register: 2, limb: 0x400b0c0d },
+            BrokenRule::Limb { register: 2, limb: 0x400b0c0d },
             "at byte 72: R2 has a limb of 1074465805, and limbs are below 2^30",
         ),
         (
             84,
             1,
             80,
-            Malformed::Limb { register: 2, limb: (1 << 32) + LIMIT - 1 },
+            BrokenRule::Limb { register: 2, limb: (1 << 32) + LIMIT - 1 },
             "at byte 80: R2 has a limb of 5368709119, and limbs are below 2^30",
         ),
     ];

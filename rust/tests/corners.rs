@@ -3,10 +3,15 @@
 mod common;
 
 use common::{i, j, memory, r, refusals, with_r1, ADD, ADDI, DIV, EBREAK, ECALL, JAL, LW, MODES, SW};
-use yokeglimmer::{run, Answer, Mode, Refusal, Register, State, Stop};
+use yokeglimmer::{Mode, Refusal, Register, State, Stop};
 
-fn answer(stop: Stop, steps: u64) -> Answer {
-    Answer { stop, steps }
+fn run(state: &mut State, memory: &mut [u8], fuel: u64, mode: Mode) -> (Stop, u64) {
+    let answer = yokeglimmer::run(state, memory, fuel, mode);
+    (answer.stop, answer.steps)
+}
+
+fn answer(stop: Stop, steps: u64) -> (Stop, u64) {
+    (stop, steps)
 }
 
 #[test]

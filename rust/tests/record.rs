@@ -4,8 +4,8 @@
 mod common;
 
 use common::{any_state, memory, Random, EBREAK};
-use yokeglimmer::raw::{self, Answer, Lent, Pending};
-use yokeglimmer::{Malformed, Register, State};
+use yokeglimmer::raw::{self, Lent, Pending, StepAnswer};
+use yokeglimmer::{BrokenRule, Register, State};
 
 const LIMIT: u64 = 1 << 30;
 
@@ -30,7 +30,7 @@ fn the_record_of_a_state() {
 }
 
 /// A record that was damaged is refused by the conversion with that rule, and by the archive, which leaves it.
-fn refuses(rule: Malformed, damage: impl Fn(&mut Lent)) {
+fn refuses(rule: BrokenRule, damage: impl Fn(&mut Lent)) {
     let mut damaged = lent();
     damage(&mut damaged);
     assert_eq!(State::try_from(&damaged), Err(rule));
@@ -38,7 +38,7 @@ fn refuses(rule: Malformed, damage: impl Fn(&mut Lent)) {
         let (mut record, mut bytes) = (damaged, memory(8, &[EBREAK]));
         let mut list = [Pending { value: 5, bound: 6, pc: 7 }; 2];
         let answer = raw::step(&mut record, &mut bytes, &mut list, 1, mode);
-        assert_eq!(answer, Answer { code: 9, particular: 0, count: 1 }, "{rule}");
+        assert_eq!(answer, StepAnswer { code: 9, particular: 0, count: 1 }, "{rule}");
         assert_eq!((record, bytes), (damaged, memory(8, &[EBREAK])), "{rule}");
         assert_eq!(list, [Pending { value: 5, bound: 6, pc: 7 }; 2], "{rule}");
     }
@@ -46,17 +46,17 @@ fn refuses(rule: Malformed, damage: impl Fn(&mut Lent)) {
 
 #[test]
 fn damaged_records() {
-    refuses(Malformed::HaltMark { byte: 2 }, |lent| lent.halted = 2);
-    refuses(Malformed::HaltMark { byte: 255 }, |lent| lent.halted = 255);
-    refuses(Malformed::Kind { register: 3, byte: 2 }, |lent| lent.kinds[3] = 2);
-    refuses(Malformed::Kind { register: 15, byte: 255 }, |lent| lent.kinds[15] = 255);
-    refuses(Malformed::Bound { register: 1, bound: 65 }, |lent| lent.bounds[1] = 65);
-    refuses(Malformed::Bound { register: 15, bound: 255 }, |lent| lent.bounds[15] = 255);
-    refuses(Malformed::ZeroRegister, |lent| lent.kinds[0] = 1);
-    refuses(Malformed::ZeroRegister, |lent| lent.bounds[0] = 1);
-    refuses(Malformed::ZeroRegister, |lent| lent.values[0] = 1);
-    refuses(Malformed::Limb { register: 2, limb: LIMIT }, |lent| lent.values[2] = LIMIT * LIMIT);
-    refuses(Malformed::Limb { register: 1, limb: u64::MAX / LIMIT }, |lent| lent.kinds[1] = 1);
+    refuses(BrokenRule::HaltMark { byte: 2 }, |lent| lent.halted = 2);
+    refuses(BrokenRule::HaltMark { byte: 255 }, |lent| lent.halted = 255);
+    refuses(BrokenRule::Kind { register: 3, byte: 2 }, |lent| lent.kinds[3] = 2);
+    refuses(BrokenRule::Kind { register: 15, byte: 255 }, |lent| lent.kinds[15] = 255);
+    refuses(BrokenRule::Bound { register: 1, bound: 65 }, |lent| lent.bounds[1] = 65);
+    refuses(BrokenRule::Bound { register: 15, bound: 255 }, |lent| lent.bounds[15] = 255);
+    refuses(BrokenRule::ZeroRegister, |lent| lent.kinds[0] = 1);
+    refuses(BrokenRule::ZeroRegister, |lent| lent.bounds[0] = 1);
+    refuses(BrokenRule::ZeroRegister, |lent| lent.values[0] = 1);
+    refuses(BrokenRule::Limb { register: 2, limb: LIMIT }, |lent| lent.values[2] = LIMIT * LIMIT);
+    refuses(BrokenRule::Limb { register: 1, limb: u64::MAX / LIMIT }, |lent| lent.kinds[1] = 1);
 }
 
 /// Whether the archive takes the record in the deferred mode, which takes every state.

@@ -6,7 +6,7 @@ mod common;
 use common::{i, memory, r, refusals, start, with_r1, word, Random};
 use common::{ADD, ADDI, DIV, EBREAK, ECALL, MODES, MUL, WORDS};
 use yokeglimmer::raw::{self, Lent};
-use yokeglimmer::{run, step, Answer, Checks, Mode, Pending, Refusal, Register, State, Stepped, Stop};
+use yokeglimmer::{run, step, Checks, Mode, Pending, Refusal, Register, State, Stepped, Stop};
 
 const PROGRAMS: u64 = 1_000;
 const NOTHING: Pending = Pending { value: 0, bound: 0, pc: 0 };
@@ -84,7 +84,7 @@ fn modes_and_counts_that_are_forbidden() {
     for (room, count, mode) in [(2, 0, 2), (2, 0, u64::MAX), (2, 3, 0), (2, usize::MAX, 1), (0, 1, 0)] {
         let (mut record, mut lent, mut list) = (before, memory(4, &[r(ADD, 2, 1, 1)]), vec![NOTHING; room]);
         let answer = raw::step(&mut record, &mut lent, &mut list, count, mode);
-        assert_eq!(answer, raw::Answer { code: 9, particular: 0, count }, "count {count} of {room}, mode {mode}");
+        assert_eq!(answer, raw::StepAnswer { code: 9, particular: 0, count }, "count {count} of {room}, mode {mode}");
         assert_eq!((record, lent, list), (before, memory(4, &[r(ADD, 2, 1, 1)]), vec![NOTHING; room]));
     }
 }
@@ -101,7 +101,7 @@ fn which_steps_list_a_check() {
         for _ in words {
             assert_eq!(step(&mut state, &mut lent, mode, &mut checks), Stepped::On);
         }
-        assert_eq!(checks.entries(), expected, "{mode:?}");
+        assert_eq!(checks.entries(), expected, "{mode}");
         assert!(room[expected.len()..].iter().all(|&unused| unused == NOTHING));
     }
 }
@@ -139,14 +139,14 @@ fn a_full_list_refuses_nothing_else() {
 }
 
 /// As many steps as there is fuel, or fewer where one stops; and the answer of a run that does so.
-fn steps(state: &mut State, memory: &mut [u8], fuel: u64, mode: Mode, checks: &mut Checks) -> Answer {
+fn steps(state: &mut State, memory: &mut [u8], fuel: u64, mode: Mode, checks: &mut Checks) -> (Stop, u64) {
     for done in 0..fuel {
         let stepped = step(state, memory, mode, checks);
         if let Some(stop) = stepped.stop() {
-            return Answer { stop, steps: done + u64::from(!matches!(stop, Stop::Refused(_))) };
+            return (stop, done + u64::from(!matches!(stop, Stop::Refused(_))));
         }
     }
-    Answer { stop: Stop::Fuel, steps: fuel }
+    (Stop::Fuel, fuel)
 }
 
 #[test]
@@ -159,9 +159,10 @@ fn steps_are_a_run() {
         let answer = run(&mut ran, &mut ran_memory, fuel, mode);
         for mut checks in [Checks::none(), Checks::over(&mut room)] {
             let (mut state, mut lent) = (before.clone(), memory(256, &words));
-            assert_eq!(steps(&mut state, &mut lent, fuel, mode, &mut checks), answer, "program {number}, {mode:?}");
-            assert_eq!((&state, &lent), (&ran, &ran_memory), "program {number}, {mode:?}");
-            assert!(checks.entries().iter().all(|check| check.bound > 40), "program {number}, {mode:?}");
+            let told = steps(&mut state, &mut lent, fuel, mode, &mut checks);
+            assert_eq!(told, (answer.stop, answer.steps), "program {number}, {mode}");
+            assert_eq!((&state, &lent), (&ran, &ran_memory), "program {number}, {mode}");
+            assert!(checks.entries().iter().all(|check| check.bound > 40), "program {number}, {mode}");
             listed[mode as usize] += checks.entries().len();
         }
         done += answer.steps;
@@ -173,8 +174,10 @@ fn steps_are_a_run() {
 fn what_a_step_says() {
     let refused = Stepped::Refused(Refusal::ListFull { pc: 12 });
     assert_eq!(Stepped::On.to_string(), "completed");
-    assert_eq!(Stepped::Ebreak.to_string(), "stopped at an Ebreak");
-    assert_eq!(Stepped::Ecall.to_string(), "stopped at an Ecall");
+    assert_eq!(Stepped::Ebreak.to_string(), "ebreak: the program stopped by itself");
+    assert_eq!(Stepped::Ecall.to_string(), "ecall: the program asks its host for a service");
     assert_eq!(refused.to_string(), Refusal::ListFull { pc: 12 }.to_string());
     assert_eq!(refused.stop().map(Stop::code), Some(8));
+    assert_eq!(refused.or_refused(), Err(Refusal::ListFull { pc: 12 }));
+    assert_eq!(Stepped::Ecall.or_refused(), Ok(Stepped::Ecall));
 }

@@ -1,0 +1,118 @@
+#!/usr/bin/env bash
+# build.sh RUN STEP: how a host builds the crate, with these two archives: in a workspace of its own; in a copy of the repository,
+# where a stand-in for tools/native hands the archives out and counts how often it is asked. Called by rust/check.
+set -eu
+run=$(readlink -f "$1") step=$(readlink -f "$2")
+rust=$(dirname "$(dirname "$(readlink -f "$0")")")
+work=$(mktemp -d)
+unset CARGO_TARGET_DIR
+trap 'rm -rf "$work"' EXIT
+trap 'exit 130' INT
+trap 'exit 143' HUP TERM
+
+fail() {
+    echo "tests/build.sh: FAILED: $*" >&2
+    exit 1
+}
+
+copy_crate() { # TO
+    mkdir -p "$1"
+    (cd "$rust" && tar -cf - --exclude=./target .) | tar -xf - -C "$1"
+}
+
+in_a_workspace() {
+    copy_crate "$work/workspace/vendored/rust"
+    mkdir -p "$work/workspace/host/src"
+    cd "$work/workspace"
+    echo '[workspace]
+members = ["host"]' >Cargo.toml
+    echo '[package]
+name = "host"
+version = "0.1.0"
+edition = "2021"
+[dependencies]
+yokeglimmer = { path = "../vendored/rust" }' >host/Cargo.toml
+    cat >host/src/main.rs <<'END'
+fn main() -> Result<(), Box<dyn std::error::Error>> {
+    let mode = yokeglimmer::Mode::try_from(0)?;
+    let mut state = yokeglimmer::State::try_from([0; yokeglimmer::STATE_BYTES])?;
+    let answer = yokeglimmer::run(&mut state, &mut [0x32, 0, 0, 0], 10, mode).or_refused()?;
+    println!("{mode}: {answer}");
+    Ok(())
+}
+END
+    said=$(ZKIR_ARCHIVE=$run ZKIR_STEP_ARCHIVE=$step cargo run --offline --quiet) || fail "a host's workspace around the crate"
+    [ "$said" = 'plain: ebreak: the program stopped by itself; steps: 1' ] || fail "a host in a workspace says: $said"
+}
+
+stand_in() { # writes the tools/native of the copy
+    cat >"$work/repository/tools/native" <<END
+#!/bin/sh
+echo "\$1" >>"$work/asked"
+cd "$work/repository"
+mkdir -p target/native target/staticlib
+[ ! -f "$work/slow" ] || { echo part >target/native/lib\$1.a && echo part >target/staticlib/lib\$1.a && sleep 60; }
+case \$1 in host) from=$run ;; *) from=$step ;; esac
+cp "\$from" target/native/lib\$1.a && cp "\$from" target/staticlib/lib\$1.a
+END
+    touch -d '1 hour ago' "$work/repository/tools/native"
+}
+
+asked() { wc -l <"$work/asked"; }
+
+build() { (cd "$work/repository/rust" && cargo build --offline >"$work/said" 2>&1) || { cat "$work/said" >&2; fail "$1"; }; }
+
+expect_asked() { # COUNT WHEN
+    build "the crate, $2"
+    [ "$(asked)" -eq "$1" ] || fail "$2, archives were made $(asked) times, not $1"
+}
+
+in_the_repository() {
+    copy_crate "$work/repository/rust"
+    cp -r "$rust/../crates" "$rust/../crates.txt" "$rust/../tools" "$work/repository"
+    find "$work/repository" -exec touch -d '1 hour ago' {} +
+    stand_in
+    expect_asked 2 "the first time"
+    grep -q 'warning.*the crate host was proved for its archive, in [0-9]* s' "$work/said" || fail "cargo build does not say that it proves"
+    find "$work/repository/rust/target" -path '*/out/libzkir_run.a' | grep -q . || fail "the archive is not copied to OUT_DIR"
+    expect_asked 2 "with nothing changed"
+    touch "$work/repository/crates/host/edits" "$work/repository"/crates/*/edits/*.edit
+    expect_asked 2 "with edits changed"
+    ! grep -q Compiling "$work/said" || fail "an edit makes cargo build again"
+    touch "$work/repository/crates/promises/src/lib.rt"
+    expect_asked 2 "with a crate changed that the archives are not made from"
+    touch "$work/repository/crates/memory/src/lib.rt"
+    expect_asked 4 "with a source changed"
+}
+
+at_a_terminal() {
+    touch "$work/repository/crates/memory/src/lib.rt"
+    cd "$work/repository/rust"
+    script -qec 'cargo build --offline' /dev/null >"$work/said" 2>&1 </dev/null || fail "the crate, at a terminal"
+    grep -q 'yokeglimmer: proving the crate host for its archive: about' "$work/said" || fail "nothing is said while it proves"
+}
+
+interrupted() {
+    touch "$work/slow" "$work/repository/crates/memory/src/lib.rt"
+    cd "$work/repository"
+    set -m
+    tools/archives host >/dev/null 2>&1 &
+    set +m
+    sleep 2
+    kill -TERM -- "-$!"
+    wait $! || true
+    [ ! -e target/native/libhost.a ] && [ ! -e target/staticlib/libhost.a ] || fail "half an archive is left after an interrupt"
+}
+
+without_archives() {
+    copy_crate "$work/alone/rust"
+    cd "$work/alone/rust"
+    ! cargo build --offline >"$work/said" 2>&1 || fail "the crate builds without an archive"
+    grep -q 'there is no archive: set ZKIR_ARCHIVE to one that exports zkir_run' "$work/said" || fail "a missing archive is not named"
+}
+
+in_a_workspace
+in_the_repository
+if command -v script >/dev/null; then at_a_terminal; fi
+interrupted
+without_archives
