@@ -3,23 +3,8 @@ use borrow.Author.Needs.{needs}
 use Rattle.checked.proofs.note.Statement.{statement}
 use Rattle.checked.proofs.note.Tie as tie
 
-enum-told : tie.Need-enum-told
-enum-told c = search needs
-
-unnoted-requires : tie.Need-unnoted-requires
-unnoted-requires c κs = tt
-
-enum-known-checks : tie.Need-enum-known-checks
-enum-known-checks c = search needs
-
-unnoted-requires-2 : tie.Need-unnoted-requires-2
-unnoted-requires-2 c κs = tt
-
 returns : tie.Need-returns
 returns c = rw (c .unnoted2 .ensures, c .before .before .before .checks .given .1) (note-full _ _ _ _ _ (c .before .if1 .taken))
-
-add-t9 : tie.Need-add-t9
-add-t9 c = search needs
 
 returns-2 : tie.Need-returns-2
 returns-2 c = rw (c .unnoted .ensures, c .before .enum-told .given .1) (note-nothing _ _ _)
@@ -31,11 +16,11 @@ pub note-spec : {M : Type 1} → statement M
 note-spec =
     tie.close
     (tie.spec
-    enum-told
-    unnoted-requires
-    enum-known-checks
-    unnoted-requires-2
+    (λ c. search needs)
+    (λ c κs. tt)
+    (λ c. search needs)
+    (λ c κs. tt)
     returns
-    add-t9
+    (λ c. search needs)
     returns-2
     returns-3)

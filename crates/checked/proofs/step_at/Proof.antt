@@ -5,26 +5,8 @@ use borrow.Author.Needs.{needs}
 use Rattle.checked.proofs.step_at.Statement.{statement}
 use Rattle.checked.proofs.step_at.Tie as tie
 
-takes-requires : tie.Need-takes-requires
-takes-requires c κs = tt
-
-nothing-requires : tie.Need-nothing-requires
-nothing-requires c κs = tt
-
 returns : tie.Need-returns
 returns c = rw (c .nothing .ensures) (steps-malformed _ _ _ _ _ (sym (c .before .before .takes .ensures) ∙ not-true _ (c .before .if1 .taken)))
-
-room-at-requires : tie.Need-room-at-requires
-room-at-requires c κs = tt
-
-advance-requires : tie.Need-advance-requires
-advance-requires c κs = tt
-
-note-requires : tie.Need-note-requires
-note-requires c κs = tt
-
-same-length : tie.Need-same-length
-same-length c = search needs
 
 returns-2 : tie.Need-returns-2
 returns-2 c = steps-taken _ _ _ _ (sym (c .before .before .before .before .before .before .before .before .before .takes .ensures) ∙ not-false _ (c .before .before .before .before .before .before .before .before .if1 .left)) _ _ (c .before .before .before .before .before .advance .result) (c .before .before .note .result) (rw (← c .before .before .before .before .before .before .before .room-at .ensures) (c .before .before .before .before .before .advance .ensures)) (c .before .before .note .ensures)
@@ -33,11 +15,11 @@ pub step-at-spec : {M : Type 1} → statement M
 step-at-spec =
     tie.close
     (tie.spec
-    takes-requires
-    nothing-requires
+    (λ c κs. tt)
+    (λ c κs. tt)
     returns
-    room-at-requires
-    advance-requires
-    note-requires
-    same-length
+    (λ c κs. tt)
+    (λ c κs. tt)
+    (λ c κs. tt)
+    (λ c. search needs)
     returns-2)

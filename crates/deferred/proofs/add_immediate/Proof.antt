@@ -7,18 +7,14 @@ use borrow.Author.Needs.{needs}
 use Rattle.deferred.proofs.add_immediate.Statement.{statement}
 use Rattle.deferred.proofs.add_immediate.Tie as tie
 
-operand-at-requires : tie.Need-operand-at-requires
-operand-at-requires c κs = search needs
-
-constant-requires : tie.Need-constant-requires
-constant-requires c κs = search needs
-
-sum-requires : tie.Need-sum-requires
-sum-requires c κs = search needs
-
 returns : tie.Need-returns
 returns c = c .sum .ensures _ _ _ ∙ ap (limbed true) (rw (c .before .before .operand-at .ensures .0, c .before .constant .ensures .0, normalise-none 0 _ refl) (sum-of-limbs _ _ _ _ _ _))
 
 pub add-immediate-spec : {M : Type 1} → statement M
 add-immediate-spec =
-    tie.close (tie.spec operand-at-requires constant-requires sum-requires returns)
+    tie.close
+    (tie.spec
+    (λ c κs. search needs)
+    (λ c κs. search needs)
+    (λ c κs. search needs)
+    returns)

@@ -3,21 +3,18 @@ use Rattle.deferred.proofs.Forms.{one-addi, one-none}
 use Rattle.deferred.proofs.plan_of_immediate.Statement.{statement}
 use Rattle.deferred.proofs.plan_of_immediate.Tie as tie
 
-same-requires : tie.Need-same-requires
-same-requires c κs = tt
-
-add-immediate-requires : tie.Need-add-immediate-requires
-add-immediate-requires c κs = tt
-
 returns : tie.Need-returns
 returns c = c .add-immediate .ensures ∙ one-addi _ (c .before .before .before .args .p) _ (sym (c .before .before .same .ensures) ∙ c .before .if1 .taken)
-
-unplanned-requires : tie.Need-unplanned-requires
-unplanned-requires c κs = tt
 
 returns-2 : tie.Need-returns-2
 returns-2 c = rw (c .unplanned .ensures) (one-none _ (c .before .before .before .args .p) _ (sym (c .before .before .same .ensures) ∙ c .before .if1 .left))
 
 pub plan-of-immediate-spec : {M : Type 1} → statement M
 plan-of-immediate-spec =
-    tie.close (tie.spec same-requires add-immediate-requires returns unplanned-requires returns-2)
+    tie.close
+    (tie.spec
+    (λ c κs. tt)
+    (λ c κs. tt)
+    returns
+    (λ c κs. tt)
+    returns-2)

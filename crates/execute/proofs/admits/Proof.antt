@@ -6,20 +6,8 @@ use borrow.Author.Needs.{needs}
 use Rattle.execute.proofs.admits.Statement.{statement}
 use Rattle.execute.proofs.admits.Tie as tie
 
-well-formed-requires : tie.Need-well-formed-requires
-well-formed-requires c κs = tt
-
 returns : tie.Need-returns
 returns c = sym (not-formed _ _ (sym (c .before .well-formed .ensures) ∙ not-true _ (c .if1 .taken)))
-
-enum-told : tie.Need-enum-told
-enum-told c = search needs
-
-all-whole-requires : tie.Need-all-whole-requires
-all-whole-requires c κs = tt
-
-enum-told-2 : tie.Need-enum-told-2
-enum-told-2 c = search needs
 
 returns-2 : tie.Need-returns-2
 unfolding admits
@@ -33,10 +21,10 @@ pub admits-spec : {M : Type 1} → statement M
 admits-spec =
     tie.close
     (tie.spec
-    well-formed-requires
+    (λ c κs. tt)
     returns
-    enum-told
-    all-whole-requires
-    enum-told-2
+    (λ c. search needs)
+    (λ c κs. tt)
+    (λ c. search needs)
     returns-2
     returns-3)

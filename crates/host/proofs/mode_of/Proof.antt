@@ -12,4 +12,8 @@ unfolding modeOf
 returns-2 c = rw (ne-eqb (c .before .args .n) 0 (c .if1 .left))
 
 pub mode-of-spec : {M : Type 1} → statement M
-mode-of-spec = tie.close (tie.spec returns returns-2)
+mode-of-spec =
+    tie.close
+    (tie.spec
+    returns
+    returns-2)

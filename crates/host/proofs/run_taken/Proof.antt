@@ -6,18 +6,15 @@ use Rattle.host.proofs.run_taken.Tie as tie
 returns : tie.Need-returns
 returns c = rw (c .if1 .taken)
 
-advance-requires : tie.Need-advance-requires
-advance-requires c κs = tt
-
-stop-of-requires : tie.Need-stop-of-requires
-stop-of-requires c κs = tt
-
-same-length : tie.Need-same-length
-same-length c = search needs
-
 returns-2 : tie.Need-returns-2
 returns-2 c = rw (c .stop-of .ensures) (one-leg _ _ _ _ (c .before .before .before .before .before .before .if1 .left) (c .before .before .before .before .advance .ensures))
 
 pub run-taken-spec : {M : Type 1} → statement M
 run-taken-spec =
-    tie.close (tie.spec returns advance-requires stop-of-requires same-length returns-2)
+    tie.close
+    (tie.spec
+    returns
+    (λ c κs. tt)
+    (λ c κs. tt)
+    (λ c. search needs)
+    returns-2)

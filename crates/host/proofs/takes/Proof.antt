@@ -12,15 +12,16 @@ returns-2 c = rw (eq-eqb (c .before .before .args .answer) 24 (omega arith), lt-
 returns-3 : tie.Need-returns-3
 returns-3 c = rw (eq-eqb (c .before .before .before .before .args .answer) 24 (omega arith), le-leb (c .before .before .before .before .args .mode) 1 (omega arith), not-true (c .before .before .before .before .args .r .laid) (c .if3 .taken))
 
-mode-of-requires : tie.Need-mode-of-requires
-mode-of-requires c κs = tt
-
-admits-requires : tie.Need-admits-requires
-admits-requires c κs = tt
-
 returns-4 : tie.Need-returns-4
 returns-4 c = rw (eq-eqb (c .before .before .before .before .before .before .before .before .before .before .before .args .answer) 24 (omega arith), le-leb (c .before .before .before .before .before .before .before .before .before .before .before .args .mode) 1 (omega arith), not-false (c .before .before .before .before .before .before .before .before .before .before .before .args .r .laid) (c .before .before .before .before .before .before .before .if3 .left)) (rw (← c .before .before .before .before .before .mode-of .ensures) (c .admits .ensures))
 
 pub takes-spec : {M : Type 1} → statement M
 takes-spec =
-    tie.close (tie.spec returns returns-2 returns-3 mode-of-requires admits-requires returns-4)
+    tie.close
+    (tie.spec
+    returns
+    returns-2
+    returns-3
+    (λ c κs. tt)
+    (λ c κs. tt)
+    returns-4)

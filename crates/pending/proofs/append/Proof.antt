@@ -7,23 +7,11 @@ use mathlib.Core.Path.{sym, _∙_, ap}
 use Rattle.pending.proofs.append.Statement.{statement}
 use Rattle.pending.proofs.append.Tie as tie
 
-lists-fit-requires : tie.Need-lists-fit-requires
-lists-fit-requires c κs = tt
-
 returns : tie.Need-returns
 returns c = let t = append-malformed _ _ _ _ (sym (c .before .lists-fit .ensures) ∙ not-true _ (c .if1 .taken)) in (t .0, rw (t .1))
 
-room-at-requires : tie.Need-room-at-requires
-room-at-requires c κs = tt
-
-lacks-requires : tie.Need-lacks-requires
-lacks-requires c κs = tt
-
 returns-2 : tie.Need-returns-2
 returns-2 c = let t = append-full _ _ _ _ (sym (c .before .before .before .before .lists-fit .ensures) ∙ not-false _ (c .before .before .before .if1 .left)) (ap (λ (r : Room). lacks r 1) (sym (c .before .before .room-at .ensures)) ∙ sym (c .before .lacks .ensures) ∙ c .if2 .taken) in (t .0, rw (t .1))
-
-note-requires : tie.Need-note-requires
-note-requires c κs = tt
 
 same-length : tie.Need-same-length
 same-length c = c .before .before .before .before .before .values .given
@@ -41,12 +29,12 @@ pub append-spec : {M : Type 1} → statement M
 append-spec =
     tie.close
     (tie.spec
-    lists-fit-requires
+    (λ c κs. tt)
     returns
-    room-at-requires
-    lacks-requires
+    (λ c κs. tt)
+    (λ c κs. tt)
     returns-2
-    note-requires
+    (λ c κs. tt)
     same-length
     same-length-2
     same-length-3

@@ -2,12 +2,6 @@ use Rattle.pending.specs.Pending.{lacks}
 use Rattle.pending.proofs.lacks.Statement.{statement}
 use Rattle.pending.proofs.lacks.Tie as tie
 
-enum-told : tie.Need-enum-told
-enum-told c = c .match .keys1
-
-enum-known-room : tie.Need-enum-known-room
-enum-known-room c = c .match .keys2
-
 returns : tie.Need-returns
 unfolding lacks
 returns c = rw (c .enum-told .given .1)
@@ -17,4 +11,10 @@ unfolding lacks
 returns-2 c = rw (c .before .room .given .1)
 
 pub lacks-spec : {M : Type 1} → statement M
-lacks-spec = tie.close (tie.spec enum-told enum-known-room returns returns-2)
+lacks-spec =
+    tie.close
+    (tie.spec
+    (λ c. c .match .keys1)
+    (λ c. c .match .keys2)
+    returns
+    returns-2)

@@ -2,15 +2,6 @@ use Rattle.pending.specs.Pending.{listing}
 use Rattle.pending.proofs.list.Statement.{statement}
 use Rattle.pending.proofs.list.Tie as tie
 
-enum-told : tie.Need-enum-told
-enum-told c = c .match .keys1
-
-enum-known-checks : tie.Need-enum-known-checks
-enum-known-checks c = c .match .keys2
-
-note-requires : tie.Need-note-requires
-note-requires c κs = tt
-
 returns : tie.Need-returns
 unfolding listing
 returns c = rw (c .enum-told .given .1)
@@ -32,9 +23,9 @@ pub list-spec : {M : Type 1} → statement M
 list-spec =
     tie.close
     (tie.spec
-    enum-told
-    enum-known-checks
-    note-requires
+    (λ c. c .match .keys1)
+    (λ c. c .match .keys2)
+    (λ c κs. tt)
     returns
     same-length
     same-length-2

@@ -7,18 +7,6 @@ use Rattle.pending.proofs.note.Tie as tie
 returns : tie.Need-returns
 returns c = no-place _ _ _ _ (omega arith)
 
-put-number-requires : tie.Need-put-number-requires
-put-number-requires c κs = tt
-
-put-width-requires : tie.Need-put-width-requires
-put-width-requires c κs = tt
-
-put-number-requires-2 : tie.Need-put-number-requires-2
-put-number-requires-2 c κs = tt
-
-add-result : tie.Need-add-result
-add-result c = search needs
-
 same-length : tie.Need-same-length
 same-length c = c .before .before .before .before .before .before .before .before .before .values .given
 
@@ -36,10 +24,10 @@ note-spec =
     tie.close
     (tie.spec
     returns
-    put-number-requires
-    put-width-requires
-    put-number-requires-2
-    add-result
+    (λ c κs. tt)
+    (λ c κs. tt)
+    (λ c κs. tt)
+    (λ c. search needs)
     same-length
     same-length-2
     same-length-3

@@ -5,17 +5,14 @@ use borrow.Author.Needs.{needs}
 use Rattle.pending.proofs.put_width.Statement.{statement}
 use Rattle.pending.proofs.put_width.Tie as tie
 
-slice-write-list : tie.Need-slice-write-list
-slice-write-list c = search needs
-
-same-length : tie.Need-same-length
-same-length c = search needs
-
-returns : tie.Need-returns
-returns c = search needs
-
 returns-2 : tie.Need-returns-2
 returns-2 c = sym (set-out _ _ _ (omega arith))
 
 pub put-width-spec : {M : Type 1} → statement M
-put-width-spec = tie.close (tie.spec slice-write-list same-length returns returns-2)
+put-width-spec =
+    tie.close
+    (tie.spec
+    (λ c. search needs)
+    (λ c. search needs)
+    (λ c. search needs)
+    returns-2)

@@ -7,9 +7,6 @@ use mathlib.Core.Path.{sym, _∙_}
 use Rattle.pending.proofs.read.Statement.{statement}
 use Rattle.pending.proofs.read.Tie as tie
 
-lists-fit-requires : tie.Need-lists-fit-requires
-lists-fit-requires c κs = tt
-
 returns : tie.Need-returns
 returns c = entry-malformed _ _ (sym (c .before .lists-fit .ensures) ∙ not-true _ (c .if1 .taken))
 
@@ -48,7 +45,7 @@ pub read-spec : {M : Type 1} → statement M
 read-spec =
     tie.close
     (tie.spec
-    lists-fit-requires
+    (λ c κs. tt)
     returns
     returns-2
     mul-t7

@@ -11,11 +11,14 @@ returns c = no-list _ _ (omega arith)
 returns-2 : tie.Need-returns-2
 returns-2 c = room-left _ _ 0 (omega arith) (omega arith)
 
-sub-t4 : tie.Need-sub-t4
-sub-t4 c = search needs
-
 returns-3 : tie.Need-returns-3
 returns-3 c = room-left _ _ _ (omega arith) refl
 
 pub room-at-spec : {M : Type 1} → statement M
-room-at-spec = tie.close (tie.spec returns returns-2 sub-t4 returns-3)
+room-at-spec =
+    tie.close
+    (tie.spec
+    returns
+    returns-2
+    (λ c. search needs)
+    returns-3)

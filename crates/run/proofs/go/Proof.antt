@@ -18,18 +18,6 @@ abbrev μ-loop : tie.MeasureT-loop
 loop-holds : tie.Need-loop-holds Inv-loop μ-loop
 loop-holds c = (refl, refl, refl, refl, c .before .before .before .before .pre, refl)
 
-room-at-requires : tie.Need-room-at-requires Inv-loop μ-loop
-room-at-requires c κs = tt
-
-advance-requires : tie.Need-advance-requires Inv-loop μ-loop
-advance-requires c κs = tt
-
-list-requires : tie.Need-list-requires Inv-loop μ-loop
-list-requires c κs = tt
-
-after-requires : tie.Need-after-requires Inv-loop μ-loop
-after-requires c κs = tt
-
 loop-less : tie.Need-loop-less Inv-loop μ-loop
 loop-less c = rw (c .after .ensures) (falls (c .before .before .before .before .before .before .before .before .before .before .before .before .before .before .before .before .before .before .before .loop .r) _ _ _ (c .before .before .before .before .before .before .before .before .before .before .before .before .before .advance .result) (c .before .before .before .before .before .before .before .before .before .before .before .before .before .before .before .before .before .before .loop-test .taken) (c .before .before .before .before .before .before .before .before .before .before .before .before .before .advance .ensures))
 
@@ -58,10 +46,10 @@ go-spec =
     Inv-loop
     μ-loop
     loop-holds
-    room-at-requires
-    advance-requires
-    list-requires
-    after-requires
+    (λ c κs. tt)
+    (λ c κs. tt)
+    (λ c κs. tt)
+    (λ c κs. tt)
     loop-less
     loop-again
     same-length

@@ -12,4 +12,8 @@ unfolding lowOf highOf
 returns-2 c = rw (lt-leb _ _ (c .if1 .left))
 
 pub covered-spec : {M : Type 1} → statement M
-covered-spec = tie.close (tie.spec returns returns-2)
+covered-spec =
+    tie.close
+    (tie.spec
+    returns
+    returns-2)

@@ -9,4 +9,8 @@ returns-2 : tie.Need-returns-2
 returns-2 c = rw (le-ltb _ _ (c .if1 .left))
 
 pub fit-spec : {M : Type 1} → statement M
-fit-spec = tie.close (tie.spec returns returns-2)
+fit-spec =
+    tie.close
+    (tie.spec
+    returns
+    returns-2)

@@ -11,33 +11,6 @@ use borrow.Author.Needs.{needs}
 use Rattle.effect.proofs.branch.taken.Statement.{statement}
 use Rattle.effect.proofs.branch.taken.Tie as tie
 
-enum-told : tie.Need-enum-told
-enum-told c = search needs
-
-enum-told-2 : tie.Need-enum-told-2
-enum-told-2 c = search needs
-
-slt-requires : tie.Need-slt-requires
-slt-requires c κs = tt
-
-enum-told-3 : tie.Need-enum-told-3
-enum-told-3 c = search needs
-
-slt-requires-2 : tie.Need-slt-requires-2
-slt-requires-2 c κs = tt
-
-enum-told-4 : tie.Need-enum-told-4
-enum-told-4 c = search needs
-
-ult-requires : tie.Need-ult-requires
-ult-requires c κs = tt
-
-enum-told-5 : tie.Need-enum-told-5
-enum-told-5 c = search needs
-
-ult-requires-2 : tie.Need-ult-requires-2
-ult-requires-2 c κs = tt
-
 returns : tie.Need-returns
 unfolding taken
 returns c = rw (c .enum-told .given .1)
@@ -66,15 +39,15 @@ pub taken-spec : {M : Type 1} → statement M
 taken-spec =
     tie.close
     (tie.spec
-    enum-told
-    enum-told-2
-    slt-requires
-    enum-told-3
-    slt-requires-2
-    enum-told-4
-    ult-requires
-    enum-told-5
-    ult-requires-2
+    (λ c. search needs)
+    (λ c. search needs)
+    (λ c κs. tt)
+    (λ c. search needs)
+    (λ c κs. tt)
+    (λ c. search needs)
+    (λ c κs. tt)
+    (λ c. search needs)
+    (λ c κs. tt)
     returns
     returns-2
     returns-3

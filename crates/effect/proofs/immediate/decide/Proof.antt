@@ -9,150 +9,6 @@ use borrow.Author.Needs.{needs}
 use Rattle.effect.proofs.immediate.decide.Statement.{statement}
 use Rattle.effect.proofs.immediate.decide.Tie as tie
 
-enum-told : tie.Need-enum-told
-enum-told c = search needs
-
-add-requires : tie.Need-add-requires
-add-requires c κs = tt
-
-from-constant-requires : tie.Need-from-constant-requires
-from-constant-requires c κs = tt
-
-after-add-requires : tie.Need-after-add-requires
-after-add-requires c κs = tt
-
-writes-requires : tie.Need-writes-requires
-writes-requires c κs = tt
-
-enum-told-2 : tie.Need-enum-told-2
-enum-told-2 c = search needs
-
-and-requires : tie.Need-and-requires
-and-requires c κs = tt
-
-from-constant-requires-2 : tie.Need-from-constant-requires-2
-from-constant-requires-2 c κs = tt
-
-after-and-requires : tie.Need-after-and-requires
-after-and-requires c κs = tt
-
-writes-requires-2 : tie.Need-writes-requires-2
-writes-requires-2 c κs = tt
-
-enum-told-3 : tie.Need-enum-told-3
-enum-told-3 c = search needs
-
-or-requires : tie.Need-or-requires
-or-requires c κs = tt
-
-from-constant-requires-3 : tie.Need-from-constant-requires-3
-from-constant-requires-3 c κs = tt
-
-after-sub-requires : tie.Need-after-sub-requires
-after-sub-requires c κs = tt
-
-writes-requires-3 : tie.Need-writes-requires-3
-writes-requires-3 c κs = tt
-
-enum-told-4 : tie.Need-enum-told-4
-enum-told-4 c = search needs
-
-xor-requires : tie.Need-xor-requires
-xor-requires c κs = tt
-
-from-constant-requires-4 : tie.Need-from-constant-requires-4
-from-constant-requires-4 c κs = tt
-
-after-sub-requires-2 : tie.Need-after-sub-requires-2
-after-sub-requires-2 c κs = tt
-
-writes-requires-4 : tie.Need-writes-requires-4
-writes-requires-4 c κs = tt
-
-enum-told-5 : tie.Need-enum-told-5
-enum-told-5 c = search needs
-
-address-requires : tie.Need-address-requires
-address-requires c κs = tt
-
-load-requires : tie.Need-load-requires
-load-requires c κs = tt
-
-loaded-8-requires : tie.Need-loaded-8-requires
-loaded-8-requires c κs = tt
-
-enum-told-6 : tie.Need-enum-told-6
-enum-told-6 c = search needs
-
-address-requires-2 : tie.Need-address-requires-2
-address-requires-2 c κs = tt
-
-load-requires-2 : tie.Need-load-requires-2
-load-requires-2 c κs = tt
-
-loaded-requires : tie.Need-loaded-requires
-loaded-requires c κs = tt
-
-enum-told-7 : tie.Need-enum-told-7
-enum-told-7 c = search needs
-
-address-requires-3 : tie.Need-address-requires-3
-address-requires-3 c κs = tt
-
-load-requires-3 : tie.Need-load-requires-3
-load-requires-3 c κs = tt
-
-loaded-16-requires : tie.Need-loaded-16-requires
-loaded-16-requires c κs = tt
-
-enum-told-8 : tie.Need-enum-told-8
-enum-told-8 c = search needs
-
-address-requires-4 : tie.Need-address-requires-4
-address-requires-4 c κs = tt
-
-load-requires-4 : tie.Need-load-requires-4
-load-requires-4 c κs = tt
-
-loaded-requires-2 : tie.Need-loaded-requires-2
-loaded-requires-2 c κs = tt
-
-enum-told-9 : tie.Need-enum-told-9
-enum-told-9 c = search needs
-
-address-requires-5 : tie.Need-address-requires-5
-address-requires-5 c κs = tt
-
-load-requires-5 : tie.Need-load-requires-5
-load-requires-5 c κs = tt
-
-loaded-requires-3 : tie.Need-loaded-requires-3
-loaded-requires-3 c κs = tt
-
-enum-told-10 : tie.Need-enum-told-10
-enum-told-10 c = search needs
-
-address-requires-6 : tie.Need-address-requires-6
-address-requires-6 c κs = tt
-
-load-requires-6 : tie.Need-load-requires-6
-load-requires-6 c κs = tt
-
-loaded-requires-4 : tie.Need-loaded-requires-4
-loaded-requires-4 c κs = tt
-
-enum-told-11 : tie.Need-enum-told-11
-enum-told-11 c = search needs
-
-address-requires-7 : tie.Need-address-requires-7
-address-requires-7 c κs = tt
-
-mul-links : tie.Need-mul-links
-mul-links c = search needs
-
-links-requires : tie.Need-links-requires
-links-requires c κs = tt
-
 returns : tie.Need-returns
 unfolding effect
 returns c = rw (c .before .before .before .before .enum-told .given .1) (of-form (λ a b x imm v e. rw (c .writes .ensures, c .before .after-add .ensures, c .before .before .from-constant .ensures, c .before .before .before .add .ensures, e)))
@@ -205,54 +61,54 @@ pub decide-spec : {M : Type 1} → statement M
 decide-spec =
     tie.close
     (tie.spec
-    enum-told
-    add-requires
-    from-constant-requires
-    after-add-requires
-    writes-requires
-    enum-told-2
-    and-requires
-    from-constant-requires-2
-    after-and-requires
-    writes-requires-2
-    enum-told-3
-    or-requires
-    from-constant-requires-3
-    after-sub-requires
-    writes-requires-3
-    enum-told-4
-    xor-requires
-    from-constant-requires-4
-    after-sub-requires-2
-    writes-requires-4
-    enum-told-5
-    address-requires
-    load-requires
-    loaded-8-requires
-    enum-told-6
-    address-requires-2
-    load-requires-2
-    loaded-requires
-    enum-told-7
-    address-requires-3
-    load-requires-3
-    loaded-16-requires
-    enum-told-8
-    address-requires-4
-    load-requires-4
-    loaded-requires-2
-    enum-told-9
-    address-requires-5
-    load-requires-5
-    loaded-requires-3
-    enum-told-10
-    address-requires-6
-    load-requires-6
-    loaded-requires-4
-    enum-told-11
-    address-requires-7
-    mul-links
-    links-requires
+    (λ c. search needs)
+    (λ c κs. tt)
+    (λ c κs. tt)
+    (λ c κs. tt)
+    (λ c κs. tt)
+    (λ c. search needs)
+    (λ c κs. tt)
+    (λ c κs. tt)
+    (λ c κs. tt)
+    (λ c κs. tt)
+    (λ c. search needs)
+    (λ c κs. tt)
+    (λ c κs. tt)
+    (λ c κs. tt)
+    (λ c κs. tt)
+    (λ c. search needs)
+    (λ c κs. tt)
+    (λ c κs. tt)
+    (λ c κs. tt)
+    (λ c κs. tt)
+    (λ c. search needs)
+    (λ c κs. tt)
+    (λ c κs. tt)
+    (λ c κs. tt)
+    (λ c. search needs)
+    (λ c κs. tt)
+    (λ c κs. tt)
+    (λ c κs. tt)
+    (λ c. search needs)
+    (λ c κs. tt)
+    (λ c κs. tt)
+    (λ c κs. tt)
+    (λ c. search needs)
+    (λ c κs. tt)
+    (λ c κs. tt)
+    (λ c κs. tt)
+    (λ c. search needs)
+    (λ c κs. tt)
+    (λ c κs. tt)
+    (λ c κs. tt)
+    (λ c. search needs)
+    (λ c κs. tt)
+    (λ c κs. tt)
+    (λ c κs. tt)
+    (λ c. search needs)
+    (λ c κs. tt)
+    (λ c. search needs)
+    (λ c κs. tt)
     returns
     returns-2
     returns-3

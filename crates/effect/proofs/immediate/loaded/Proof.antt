@@ -4,15 +4,6 @@ use borrow.Author.Needs.{needs}
 use Rattle.effect.proofs.immediate.loaded.Statement.{statement}
 use Rattle.effect.proofs.immediate.loaded.Tie as tie
 
-enum-known-l : tie.Need-enum-known-l
-enum-known-l c = search needs
-
-writes-requires : tie.Need-writes-requires
-writes-requires c κs = tt
-
-enum-known-l-2 : tie.Need-enum-known-l-2
-enum-known-l-2 c = search needs
-
 returns : tie.Need-returns
 unfolding onLoaded loaded
 returns c = λ rd. rw (c .before .before .l .given .1) (rw (c .writes .ensures))
@@ -22,4 +13,11 @@ unfolding onLoaded
 returns-2 c = λ rd. rw (c .before .l2 .given .1)
 
 pub loaded-spec : {M : Type 1} → statement M
-loaded-spec = tie.close (tie.spec enum-known-l writes-requires enum-known-l-2 returns returns-2)
+loaded-spec =
+    tie.close
+    (tie.spec
+    (λ c. search needs)
+    (λ c κs. tt)
+    (λ c. search needs)
+    returns
+    returns-2)

@@ -4,21 +4,6 @@ use borrow.Author.Needs.{needs}
 use Rattle.effect.proofs.immediate.loaded_16.Statement.{statement}
 use Rattle.effect.proofs.immediate.loaded_16.Tie as tie
 
-enum-known-l : tie.Need-enum-known-l
-enum-known-l c = search needs
-
-cast-extend-16 : tie.Need-cast-extend-16
-cast-extend-16 c = search needs
-
-extend-16-requires : tie.Need-extend-16-requires
-extend-16-requires c κs = tt
-
-writes-requires : tie.Need-writes-requires
-writes-requires c κs = tt
-
-enum-known-l-2 : tie.Need-enum-known-l-2
-enum-known-l-2 c = search needs
-
 returns : tie.Need-returns
 unfolding onLoaded loaded
 returns c = λ rd. rw (c .before .before .before .l .given .1) (rw (c .writes .ensures, c .before .extend-16 .ensures))
@@ -31,10 +16,10 @@ pub loaded-16-spec : {M : Type 1} → statement M
 loaded-16-spec =
     tie.close
     (tie.spec
-    enum-known-l
-    cast-extend-16
-    extend-16-requires
-    writes-requires
-    enum-known-l-2
+    (λ c. search needs)
+    (λ c. search needs)
+    (λ c κs. tt)
+    (λ c κs. tt)
+    (λ c. search needs)
     returns
     returns-2)

@@ -9,228 +9,6 @@ use borrow.Author.Needs.{needs}
 use Rattle.effect.proofs.registers.decide.Statement.{statement}
 use Rattle.effect.proofs.registers.decide.Tie as tie
 
-enum-told : tie.Need-enum-told
-enum-told c = search needs
-
-add-requires : tie.Need-add-requires
-add-requires c κs = tt
-
-after-add-requires : tie.Need-after-add-requires
-after-add-requires c κs = tt
-
-checks-requires : tie.Need-checks-requires
-checks-requires c κs = tt
-
-enum-told-2 : tie.Need-enum-told-2
-enum-told-2 c = search needs
-
-sub-requires : tie.Need-sub-requires
-sub-requires c κs = tt
-
-after-sub-requires : tie.Need-after-sub-requires
-after-sub-requires c κs = tt
-
-writes-requires : tie.Need-writes-requires
-writes-requires c κs = tt
-
-enum-told-3 : tie.Need-enum-told-3
-enum-told-3 c = search needs
-
-mul-requires : tie.Need-mul-requires
-mul-requires c κs = tt
-
-after-mul-requires : tie.Need-after-mul-requires
-after-mul-requires c κs = tt
-
-checks-requires-2 : tie.Need-checks-requires-2
-checks-requires-2 c κs = tt
-
-enum-told-4 : tie.Need-enum-told-4
-enum-told-4 c = search needs
-
-mulh-requires : tie.Need-mulh-requires
-mulh-requires c κs = tt
-
-after-mul-requires-2 : tie.Need-after-mul-requires-2
-after-mul-requires-2 c κs = tt
-
-writes-requires-2 : tie.Need-writes-requires-2
-writes-requires-2 c κs = tt
-
-enum-told-5 : tie.Need-enum-told-5
-enum-told-5 c = search needs
-
-div-requires : tie.Need-div-requires
-div-requires c κs = tt
-
-divides-requires : tie.Need-divides-requires
-divides-requires c κs = tt
-
-enum-told-6 : tie.Need-enum-told-6
-enum-told-6 c = search needs
-
-divu-requires : tie.Need-divu-requires
-divu-requires c κs = tt
-
-divides-requires-2 : tie.Need-divides-requires-2
-divides-requires-2 c κs = tt
-
-enum-told-7 : tie.Need-enum-told-7
-enum-told-7 c = search needs
-
-rem-requires : tie.Need-rem-requires
-rem-requires c κs = tt
-
-divides-requires-3 : tie.Need-divides-requires-3
-divides-requires-3 c κs = tt
-
-enum-told-8 : tie.Need-enum-told-8
-enum-told-8 c = search needs
-
-remu-requires : tie.Need-remu-requires
-remu-requires c κs = tt
-
-divides-requires-4 : tie.Need-divides-requires-4
-divides-requires-4 c κs = tt
-
-enum-told-9 : tie.Need-enum-told-9
-enum-told-9 c = search needs
-
-and-requires : tie.Need-and-requires
-and-requires c κs = tt
-
-after-and-requires : tie.Need-after-and-requires
-after-and-requires c κs = tt
-
-writes-requires-3 : tie.Need-writes-requires-3
-writes-requires-3 c κs = tt
-
-enum-told-10 : tie.Need-enum-told-10
-enum-told-10 c = search needs
-
-or-requires : tie.Need-or-requires
-or-requires c κs = tt
-
-after-sub-requires-2 : tie.Need-after-sub-requires-2
-after-sub-requires-2 c κs = tt
-
-writes-requires-4 : tie.Need-writes-requires-4
-writes-requires-4 c κs = tt
-
-enum-told-11 : tie.Need-enum-told-11
-enum-told-11 c = search needs
-
-xor-requires : tie.Need-xor-requires
-xor-requires c κs = tt
-
-after-sub-requires-3 : tie.Need-after-sub-requires-3
-after-sub-requires-3 c κs = tt
-
-writes-requires-5 : tie.Need-writes-requires-5
-writes-requires-5 c κs = tt
-
-enum-told-12 : tie.Need-enum-told-12
-enum-told-12 c = search needs
-
-shl-requires : tie.Need-shl-requires
-shl-requires c κs = tt
-
-after-shl-requires : tie.Need-after-shl-requires
-after-shl-requires c κs = tt
-
-writes-requires-6 : tie.Need-writes-requires-6
-writes-requires-6 c κs = tt
-
-enum-told-13 : tie.Need-enum-told-13
-enum-told-13 c = search needs
-
-shr-requires : tie.Need-shr-requires
-shr-requires c κs = tt
-
-after-srl-requires : tie.Need-after-srl-requires
-after-srl-requires c κs = tt
-
-writes-requires-7 : tie.Need-writes-requires-7
-writes-requires-7 c κs = tt
-
-enum-told-14 : tie.Need-enum-told-14
-enum-told-14 c = search needs
-
-sra-requires : tie.Need-sra-requires
-sra-requires c κs = tt
-
-after-sra-requires : tie.Need-after-sra-requires
-after-sra-requires c κs = tt
-
-writes-requires-8 : tie.Need-writes-requires-8
-writes-requires-8 c κs = tt
-
-enum-told-15 : tie.Need-enum-told-15
-enum-told-15 c = search needs
-
-slt-requires : tie.Need-slt-requires
-slt-requires c κs = tt
-
-sets-requires : tie.Need-sets-requires
-sets-requires c κs = tt
-
-enum-told-16 : tie.Need-enum-told-16
-enum-told-16 c = search needs
-
-ult-requires : tie.Need-ult-requires
-ult-requires c κs = tt
-
-sets-requires-2 : tie.Need-sets-requires-2
-sets-requires-2 c κs = tt
-
-enum-told-17 : tie.Need-enum-told-17
-enum-told-17 c = search needs
-
-slt-requires-2 : tie.Need-slt-requires-2
-slt-requires-2 c κs = tt
-
-sets-requires-3 : tie.Need-sets-requires-3
-sets-requires-3 c κs = tt
-
-enum-told-18 : tie.Need-enum-told-18
-enum-told-18 c = search needs
-
-ult-requires-2 : tie.Need-ult-requires-2
-ult-requires-2 c κs = tt
-
-sets-requires-4 : tie.Need-sets-requires-4
-sets-requires-4 c κs = tt
-
-enum-told-19 : tie.Need-enum-told-19
-enum-told-19 c = search needs
-
-sets-requires-5 : tie.Need-sets-requires-5
-sets-requires-5 c κs = tt
-
-enum-told-20 : tie.Need-enum-told-20
-enum-told-20 c = search needs
-
-sets-requires-6 : tie.Need-sets-requires-6
-sets-requires-6 c κs = tt
-
-enum-told-21 : tie.Need-enum-told-21
-enum-told-21 c = search needs
-
-moves-requires : tie.Need-moves-requires
-moves-requires c κs = tt
-
-enum-told-22 : tie.Need-enum-told-22
-enum-told-22 c = search needs
-
-moves-requires-2 : tie.Need-moves-requires-2
-moves-requires-2 c κs = tt
-
-enum-told-23 : tie.Need-enum-told-23
-enum-told-23 c = search needs
-
-moves-requires-3 : tie.Need-moves-requires-3
-moves-requires-3 c κs = tt
-
 returns : tie.Need-returns
 unfolding effect
 returns c = rw (c .before .before .before .enum-told .given .1) (of-form (λ a b x imm v m e. c .checks .ensures a (v .pc) ∙ rw (c .before .after-add .ensures, c .before .before .add .ensures, e)))
@@ -331,80 +109,80 @@ pub decide-spec : {M : Type 1} → statement M
 decide-spec =
     tie.close
     (tie.spec
-    enum-told
-    add-requires
-    after-add-requires
-    checks-requires
-    enum-told-2
-    sub-requires
-    after-sub-requires
-    writes-requires
-    enum-told-3
-    mul-requires
-    after-mul-requires
-    checks-requires-2
-    enum-told-4
-    mulh-requires
-    after-mul-requires-2
-    writes-requires-2
-    enum-told-5
-    div-requires
-    divides-requires
-    enum-told-6
-    divu-requires
-    divides-requires-2
-    enum-told-7
-    rem-requires
-    divides-requires-3
-    enum-told-8
-    remu-requires
-    divides-requires-4
-    enum-told-9
-    and-requires
-    after-and-requires
-    writes-requires-3
-    enum-told-10
-    or-requires
-    after-sub-requires-2
-    writes-requires-4
-    enum-told-11
-    xor-requires
-    after-sub-requires-3
-    writes-requires-5
-    enum-told-12
-    shl-requires
-    after-shl-requires
-    writes-requires-6
-    enum-told-13
-    shr-requires
-    after-srl-requires
-    writes-requires-7
-    enum-told-14
-    sra-requires
-    after-sra-requires
-    writes-requires-8
-    enum-told-15
-    slt-requires
-    sets-requires
-    enum-told-16
-    ult-requires
-    sets-requires-2
-    enum-told-17
-    slt-requires-2
-    sets-requires-3
-    enum-told-18
-    ult-requires-2
-    sets-requires-4
-    enum-told-19
-    sets-requires-5
-    enum-told-20
-    sets-requires-6
-    enum-told-21
-    moves-requires
-    enum-told-22
-    moves-requires-2
-    enum-told-23
-    moves-requires-3
+    (λ c. search needs)
+    (λ c κs. tt)
+    (λ c κs. tt)
+    (λ c κs. tt)
+    (λ c. search needs)
+    (λ c κs. tt)
+    (λ c κs. tt)
+    (λ c κs. tt)
+    (λ c. search needs)
+    (λ c κs. tt)
+    (λ c κs. tt)
+    (λ c κs. tt)
+    (λ c. search needs)
+    (λ c κs. tt)
+    (λ c κs. tt)
+    (λ c κs. tt)
+    (λ c. search needs)
+    (λ c κs. tt)
+    (λ c κs. tt)
+    (λ c. search needs)
+    (λ c κs. tt)
+    (λ c κs. tt)
+    (λ c. search needs)
+    (λ c κs. tt)
+    (λ c κs. tt)
+    (λ c. search needs)
+    (λ c κs. tt)
+    (λ c κs. tt)
+    (λ c. search needs)
+    (λ c κs. tt)
+    (λ c κs. tt)
+    (λ c κs. tt)
+    (λ c. search needs)
+    (λ c κs. tt)
+    (λ c κs. tt)
+    (λ c κs. tt)
+    (λ c. search needs)
+    (λ c κs. tt)
+    (λ c κs. tt)
+    (λ c κs. tt)
+    (λ c. search needs)
+    (λ c κs. tt)
+    (λ c κs. tt)
+    (λ c κs. tt)
+    (λ c. search needs)
+    (λ c κs. tt)
+    (λ c κs. tt)
+    (λ c κs. tt)
+    (λ c. search needs)
+    (λ c κs. tt)
+    (λ c κs. tt)
+    (λ c κs. tt)
+    (λ c. search needs)
+    (λ c κs. tt)
+    (λ c κs. tt)
+    (λ c. search needs)
+    (λ c κs. tt)
+    (λ c κs. tt)
+    (λ c. search needs)
+    (λ c κs. tt)
+    (λ c κs. tt)
+    (λ c. search needs)
+    (λ c κs. tt)
+    (λ c κs. tt)
+    (λ c. search needs)
+    (λ c κs. tt)
+    (λ c. search needs)
+    (λ c κs. tt)
+    (λ c. search needs)
+    (λ c κs. tt)
+    (λ c. search needs)
+    (λ c κs. tt)
+    (λ c. search needs)
+    (λ c κs. tt)
     returns
     returns-2
     returns-3

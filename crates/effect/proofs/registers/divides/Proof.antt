@@ -1,19 +1,18 @@
 use borrow.Author.Tests.{eq-eqb, ne-eqb}
-use borrow.Author.Needs.{needs}
 use Rattle.effect.proofs.registers.divides.Statement.{statement}
 use Rattle.effect.proofs.registers.divides.Tie as tie
 
 returns : tie.Need-returns
 returns c = λ rd pc. rw (eq-eqb _ 0 (c .if1 .taken))
 
-after-div-requires : tie.Need-after-div-requires
-after-div-requires c κs = tt
-
-writes-requires : tie.Need-writes-requires
-writes-requires c κs = tt
-
 returns-2 : tie.Need-returns-2
 returns-2 c = λ rd pc. rw (ne-eqb _ 0 (c .before .before .if1 .left)) (rw (c .writes .ensures, c .before .after-div .ensures))
 
 pub divides-spec : {M : Type 1} → statement M
-divides-spec = tie.close (tie.spec returns after-div-requires writes-requires returns-2)
+divides-spec =
+    tie.close
+    (tie.spec
+    returns
+    (λ c κs. tt)
+    (λ c κs. tt)
+    returns-2)

@@ -1,12 +1,5 @@
-use borrow.Author.Needs.{needs}
 use Rattle.effect.proofs.registers.moves.Statement.{statement}
 use Rattle.effect.proofs.registers.moves.Tie as tie
-
-after-move-requires : tie.Need-after-move-requires
-after-move-requires c κs = tt
-
-writes-requires : tie.Need-writes-requires
-writes-requires c κs = tt
 
 returns : tie.Need-returns
 returns c = λ rd pc. rw (c .before .before .if1 .taken) (rw (c .writes .ensures, c .before .after-move .ensures))
@@ -15,4 +8,10 @@ returns-2 : tie.Need-returns-2
 returns-2 c = λ rd pc. rw (c .if1 .left)
 
 pub moves-spec : {M : Type 1} → statement M
-moves-spec = tie.close (tie.spec after-move-requires writes-requires returns returns-2)
+moves-spec =
+    tie.close
+    (tie.spec
+    (λ c κs. tt)
+    (λ c κs. tt)
+    returns
+    returns-2)

@@ -10,15 +10,6 @@ use borrow.Author.Needs.{needs}
 use Rattle.effect.proofs.store.size_of.Statement.{statement}
 use Rattle.effect.proofs.store.size_of.Tie as tie
 
-enum-told : tie.Need-enum-told
-enum-told c = search needs
-
-enum-told-2 : tie.Need-enum-told-2
-enum-told-2 c = search needs
-
-enum-told-3 : tie.Need-enum-told-3
-enum-told-3 c = search needs
-
 returns : tie.Need-returns
 unfolding storeSize
 returns c = rw (c .enum-told .given .1)
@@ -37,4 +28,12 @@ returns-4 c = others sizeOf (λ (op : Opcode). storeSize (storeOf op)) Byte refl
 
 pub size-of-spec : {M : Type 1} → statement M
 size-of-spec =
-    tie.close (tie.spec enum-told enum-told-2 enum-told-3 returns returns-2 returns-3 returns-4)
+    tie.close
+    (tie.spec
+    (λ c. search needs)
+    (λ c. search needs)
+    (λ c. search needs)
+    returns
+    returns-2
+    returns-3
+    returns-4)

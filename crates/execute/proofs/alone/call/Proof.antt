@@ -9,15 +9,14 @@ use mathlib.Core.Path.{refl, _∙_}
 use Rattle.execute.proofs.alone.call.Statement.{statement}
 use Rattle.execute.proofs.alone.call.Tie as tie
 
-settle-all-requires : tie.Need-settle-all-requires
-settle-all-requires c κs = tt
-
-plus-requires : tie.Need-plus-requires
-plus-requires c κs = tt
-
 returns : tie.Need-returns
 unfolding seen effect
 returns c = λ m. not-on-limbs _ _ _ Ecall _ _ _ (no-limb-form _ _ F.Alone O.Ecall 0 0 0 0 _ refl refl) (rw (c .plus .ensures, c .before .settle-all .ensures _) (went-call _ _ _ _) ∙ decided (c .before .before .before .before .before .args .start) Ecall _ m _ _ refl refl)
 
 pub call-spec : {M : Type 1} → statement M
-call-spec = tie.close (tie.spec settle-all-requires plus-requires returns)
+call-spec =
+    tie.close
+    (tie.spec
+    (λ c κs. tt)
+    (λ c κs. tt)
+    returns)

@@ -4,26 +4,11 @@ use mathlib.Core.Path.{sym, _∙_}
 use Rattle.execute.proofs.alone.obey.Statement.{statement}
 use Rattle.execute.proofs.alone.obey.Tie as tie
 
-unused-requires : tie.Need-unused-requires
-unused-requires c κs = tt
-
-refuse-requires : tie.Need-refuse-requires
-refuse-requires c κs = tt
-
 returns : tie.Need-returns
 returns c = λ m. rw (c .refuse .ensures) (obeyed-refused _ _ _ _ F.Alone _ _ (sym (c .before .before .before .pre)) (c .before .before .unused .ensures) (c .before .if1 .taken))
 
-same-requires : tie.Need-same-requires
-same-requires c κs = tt
-
-call-requires : tie.Need-call-requires
-call-requires c κs = tt
-
 returns-2 : tie.Need-returns-2
 returns-2 c = λ m. an-ecall _ _ _ _ _ _ _ (sym (c .before .before .before .before .before .before .before .before .pre)) (c .before .before .before .before .before .before .before .unused .ensures) (c .before .before .before .before .before .before .if1 .left) (sym (c .before .before .before .before .before .same .ensures) ∙ c .before .before .before .before .if2 .taken) (c .call .ensures m)
-
-halt-requires : tie.Need-halt-requires
-halt-requires c κs = tt
 
 returns-3 : tie.Need-returns-3
 returns-3 c = λ m. an-ebreak _ _ _ _ _ _ _ (sym (c .before .before .before .before .before .pre)) (c .before .before .before .before .unused .ensures) (c .before .before .before .if1 .left) (sym (c .before .before .same .ensures) ∙ c .before .if2 .left) (rw (c .halt .ensures) (halted (c .before .before .before .before .before .args .start) _ m))
@@ -32,11 +17,11 @@ pub obey-spec : {M : Type 1} → statement M
 obey-spec =
     tie.close
     (tie.spec
-    unused-requires
-    refuse-requires
+    (λ c κs. tt)
+    (λ c κs. tt)
     returns
-    same-requires
-    call-requires
+    (λ c κs. tt)
+    (λ c κs. tt)
     returns-2
-    halt-requires
+    (λ c κs. tt)
     returns-3)

@@ -5,15 +5,6 @@ use borrow.Author.Needs.{needs}
 use Rattle.execute.proofs.alone.settle_all.Statement.{statement}
 use Rattle.execute.proofs.alone.settle_all.Tie as tie
 
-enum-told : tie.Need-enum-told
-enum-told c = search needs
-
-normalise-all-requires : tie.Need-normalise-all-requires
-normalise-all-requires c κs = tt
-
-enum-told-2 : tie.Need-enum-told-2
-enum-told-2 c = search needs
-
 returns : tie.Need-returns
 unfolding settle sources normaliseEach normaliseTo
 returns c = λ bs. rw (c .before .before .before .enum-told .given .1) (c .normalise-all .ensures bs)
@@ -24,4 +15,10 @@ returns-2 c = λ bs. rw (c .enum-told2 .given .1)
 
 pub settle-all-spec : {M : Type 1} → statement M
 settle-all-spec =
-    tie.close (tie.spec enum-told normalise-all-requires enum-told-2 returns returns-2)
+    tie.close
+    (tie.spec
+    (λ c. search needs)
+    (λ c κs. tt)
+    (λ c. search needs)
+    returns
+    returns-2)

@@ -6,17 +6,14 @@ use mathlib.Core.Path.{refl, _∙_}
 use Rattle.execute.proofs.branch.executed.Statement.{statement}
 use Rattle.execute.proofs.branch.executed.Tie as tie
 
-next-requires : tie.Need-next-requires
-next-requires c κs = tt
-
-settle-requires : tie.Need-settle-requires
-settle-requires c κs = tt
-
-to-requires : tie.Need-to-requires
-to-requires c κs = tt
-
 returns : tie.Need-returns
 returns c = λ m. not-on-limbs _ _ _ _ _ _ _ (no-limb-form _ _ F.B (c .before .before .before .before .before .before .before .before .args .p .op) (c .before .before .before .before .before .before .before .before .args .p .a) (c .before .before .before .before .before .before .before .before .args .p .b) (c .before .before .before .before .before .before .before .before .args .p .c) (c .before .before .before .before .before .before .before .before .args .p .imm) _ (c .before .before .before .before .before .before .before .before .pre) refl) (rw (c .to .ensures, c .before .before .before .before .next .ensures, c .before .settle .ensures _) (went-to _ _ _ _) ∙ decided (c .before .before .before .before .before .before .before .before .args .start) _ _ m _ _ (branched _ (c .before .before .before .before .before .before .before .before .args .p .op) (c .before .before .before .before .before .before .before .before .args .p .a) (c .before .before .before .before .before .before .before .before .args .p .b) (c .before .before .before .before .before .before .before .before .args .p .c) (c .before .before .before .before .before .before .before .before .args .p .imm) _ _ m (c .before .before .before .before .before .before .before .before .pre)) (settled _ F.B (c .before .before .before .before .before .before .before .before .args .p .op) (c .before .before .before .before .before .before .before .before .args .p .a) (c .before .before .before .before .before .before .before .before .args .p .b) (c .before .before .before .before .before .before .before .before .args .p .c) (c .before .before .before .before .before .before .before .before .args .p .imm) _ _ _ (c .before .before .before .before .before .before .before .before .pre) refl))
 
 pub executed-spec : {M : Type 1} → statement M
-executed-spec = tie.close (tie.spec next-requires settle-requires to-requires returns)
+executed-spec =
+    tie.close
+    (tie.spec
+    (λ c κs. tt)
+    (λ c κs. tt)
+    (λ c κs. tt)
+    returns)

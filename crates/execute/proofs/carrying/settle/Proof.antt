@@ -4,18 +4,6 @@ use borrow.Author.Needs.{needs}
 use Rattle.execute.proofs.carrying.settle.Statement.{statement}
 use Rattle.execute.proofs.carrying.settle.Tie as tie
 
-enum-told : tie.Need-enum-told
-enum-told c = search needs
-
-normalise-requires : tie.Need-normalise-requires
-normalise-requires c κs = tt
-
-normalise-requires-2 : tie.Need-normalise-requires-2
-normalise-requires-2 c κs = tt
-
-enum-told-2 : tie.Need-enum-told-2
-enum-told-2 c = search needs
-
 returns : tie.Need-returns
 returns c = λ bs. rw (c .before .before .before .before .before .before .enum-told .given .1) (c .normalise2 .ensures bs ∙ ap (normalise (c .before .before .before .before .before .before .before .before .args .second)) (c .before .before .before .normalise .ensures bs))
 
@@ -25,4 +13,10 @@ returns-2 c = λ bs. rw (c .enum-told2 .given .1)
 pub settle-spec : {M : Type 1} → statement M
 settle-spec =
     tie.close
-    (tie.spec enum-told normalise-requires normalise-requires-2 enum-told-2 returns returns-2)
+    (tie.spec
+    (λ c. search needs)
+    (λ c κs. tt)
+    (λ c κs. tt)
+    (λ c. search needs)
+    returns
+    returns-2)

@@ -3,21 +3,6 @@ use borrow.Author.Needs.{needs}
 use Rattle.execute.proofs.immediate.carry.Statement.{statement}
 use Rattle.execute.proofs.immediate.carry.Tie as tie
 
-enum-known-turn : tie.Need-enum-known-turn
-enum-known-turn c = search needs
-
-put-requires : tie.Need-put-requires
-put-requires c κs = tt
-
-to-requires : tie.Need-to-requires
-to-requires c κs = tt
-
-enum-known-turn-2 : tie.Need-enum-known-turn-2
-enum-known-turn-2 c = search needs
-
-refuse-requires : tie.Need-refuse-requires
-refuse-requires c κs = tt
-
 returns : tie.Need-returns
 returns c = λ m. rw (c .to .ensures, c .before .before .before .before .before .before .before .turn .given .1) (went-writes _ _ _ _ _ _ _ _ (c .before .put .ensures))
 
@@ -28,10 +13,10 @@ pub carry-spec : {M : Type 1} → statement M
 carry-spec =
     tie.close
     (tie.spec
-    enum-known-turn
-    put-requires
-    to-requires
-    enum-known-turn-2
-    refuse-requires
+    (λ c. search needs)
+    (λ c κs. tt)
+    (λ c κs. tt)
+    (λ c. search needs)
+    (λ c κs. tt)
     returns
     returns-2)

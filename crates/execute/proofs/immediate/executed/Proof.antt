@@ -5,9 +5,6 @@ use Rattle.execute.proofs.immediate.executed.Tie as tie
 limbs-requires : tie.Need-limbs-requires
 limbs-requires c κs = c .before .before .before .before .before .pre
 
-onward-requires : tie.Need-onward-requires
-onward-requires c κs = tt
-
 returns : tie.Need-returns
 returns c = rw (c .onward .ensures) (on-limbs _ _ _ _ _ _ (rw (c .before .if1 .taken) at (c .before .before .limbs .ensures)))
 
@@ -19,4 +16,10 @@ returns-2 c = not-on-limbs _ _ _ _ _ _ _ (rw (c .before .before .before .before 
 
 pub executed-spec : {M : Type 1} → statement M
 executed-spec =
-    tie.close (tie.spec limbs-requires onward-requires returns wholly-requires returns-2)
+    tie.close
+    (tie.spec
+    limbs-requires
+    (λ c κs. tt)
+    returns
+    wholly-requires
+    returns-2)

@@ -6,12 +6,6 @@ use mathlib.Core.Path.{sym, refl}
 use Rattle.execute.proofs.immediate.obey.Statement.{statement}
 use Rattle.execute.proofs.immediate.obey.Tie as tie
 
-immediate-requires : tie.Need-immediate-requires
-immediate-requires c κs = tt
-
-parts-requires : tie.Need-parts-requires
-parts-requires c κs = tt
-
 executed-requires : tie.Need-executed-requires
 executed-requires c κs = rw (c .before .before .before .parts .ensures) (c .before .before .before .before .before .before .pre)
 
@@ -20,4 +14,10 @@ unfolding usedBits
 returns c = obeyed-made _ _ _ _ F.I 0 _ (sym (c .before .before .before .before .before .before .before .pre)) (omega (arith, c .before .before .before .before .before .before .before .fits)) _ _ _ refl (c .before .before .before .before .before .immediate .ensures) (c .before .before .before .before .parts .ensures) (c .executed .ensures)
 
 pub obey-spec : {M : Type 1} → statement M
-obey-spec = tie.close (tie.spec immediate-requires parts-requires executed-requires returns)
+obey-spec =
+    tie.close
+    (tie.spec
+    (λ c κs. tt)
+    (λ c κs. tt)
+    executed-requires
+    returns)

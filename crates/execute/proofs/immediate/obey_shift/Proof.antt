@@ -4,20 +4,8 @@ use mathlib.Core.Path.{sym}
 use Rattle.execute.proofs.immediate.obey_shift.Statement.{statement}
 use Rattle.execute.proofs.immediate.obey_shift.Tie as tie
 
-unused-requires : tie.Need-unused-requires
-unused-requires c κs = tt
-
-refuse-requires : tie.Need-refuse-requires
-refuse-requires c κs = tt
-
 returns : tie.Need-returns
 returns c = λ m. rw (c .refuse .ensures) (obeyed-refused _ _ _ _ F.Shift _ _ (sym (c .before .before .before .pre)) (c .before .before .unused .ensures) (c .before .if1 .taken))
-
-immediate-requires : tie.Need-immediate-requires
-immediate-requires c κs = tt
-
-parts-requires : tie.Need-parts-requires
-parts-requires c κs = tt
 
 shifted-requires : tie.Need-shifted-requires
 shifted-requires c κs = rw (c .before .before .before .parts .ensures) (c .before .before .before .before .before .before .before .pre)
@@ -29,10 +17,10 @@ pub obey-shift-spec : {M : Type 1} → statement M
 obey-shift-spec =
     tie.close
     (tie.spec
-    unused-requires
-    refuse-requires
+    (λ c κs. tt)
+    (λ c κs. tt)
     returns
-    immediate-requires
-    parts-requires
+    (λ c κs. tt)
+    (λ c κs. tt)
     shifted-requires
     returns-2)

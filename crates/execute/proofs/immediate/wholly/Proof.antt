@@ -4,17 +4,14 @@ use mathlib.Core.Path.{refl, _∙_}
 use Rattle.execute.proofs.immediate.wholly.Statement.{statement}
 use Rattle.execute.proofs.immediate.wholly.Tie as tie
 
-read-requires : tie.Need-read-requires
-read-requires c κs = tt
-
-decide-requires : tie.Need-decide-requires
-decide-requires c κs = tt
-
-carry-requires : tie.Need-carry-requires
-carry-requires c κs = tt
-
 returns : tie.Need-returns
 returns c = c .carry .ensures _ ∙ decided (c .before .before .before .before .before .before .before .before .before .before .args .start) _ _ _ _ _ (c .before .before .before .before .decide .ensures .within (rw (c .before .before .before .before .before .before .before .before .before .before .pre) refl) _ _ (c .before .before .before .before .before .before .before .before .before .before .args .p .c) _ _ (c .before .before .before .before .before .read .ensures)) (settled _ F.I (c .before .before .before .before .before .before .before .before .before .before .args .p .op) (c .before .before .before .before .before .before .before .before .before .before .args .p .a) _ (c .before .before .before .before .before .before .before .before .before .before .args .p .c) (c .before .before .before .before .before .before .before .before .before .before .args .p .imm) _ _ _ (c .before .before .before .before .before .before .before .before .before .before .pre) (none _))
 
 pub wholly-spec : {M : Type 1} → statement M
-wholly-spec = tie.close (tie.spec read-requires decide-requires carry-requires returns)
+wholly-spec =
+    tie.close
+    (tie.spec
+    (λ c κs. tt)
+    (λ c κs. tt)
+    (λ c κs. tt)
+    returns)

@@ -9,27 +9,6 @@ use mathlib.Core.Path.{sym, refl, _∙_}
 use Rattle.execute.proofs.jump.obey.Statement.{statement}
 use Rattle.execute.proofs.jump.obey.Tie as tie
 
-immediate-requires : tie.Need-immediate-requires
-immediate-requires c κs = tt
-
-parts-requires : tie.Need-parts-requires
-parts-requires c κs = tt
-
-plus-requires : tie.Need-plus-requires
-plus-requires c κs = tt
-
-from-constant-requires : tie.Need-from-constant-requires
-from-constant-requires c κs = tt
-
-write-requires : tie.Need-write-requires
-write-requires c κs = tt
-
-plus-requires-2 : tie.Need-plus-requires-2
-plus-requires-2 c κs = tt
-
-to-requires : tie.Need-to-requires
-to-requires c κs = tt
-
 returns : tie.Need-returns
 unfolding usedBits kept waits
 returns c = λ m. obeyed-made _ _ _ _ F.J 0 _ (sym (c .before .before .before .before .before .before .before .before .before .before .pre)) (omega (arith, c .before .before .before .before .before .before .before .before .before .before .fits)) _ _ _ refl (c .before .before .before .before .before .before .before .before .before .immediate .ensures) (c .before .before .before .before .before .before .before .before .parts .ensures) (not-on-limbs _ _ _ _ _ _ _ (no-limb-form _ _ F.J (c .before .before .before .before .before .before .before .before .parts .result .op) (c .before .before .before .before .before .before .before .before .parts .result .a) (c .before .before .before .before .before .before .before .before .parts .result .b) (c .before .before .before .before .before .before .before .before .parts .result .c) (c .before .before .before .before .before .before .before .before .parts .result .imm) _ (rw (c .before .before .before .before .before .before .before .before .parts .ensures) (c .before .before .before .before .before .before .before .before .before .before .pre)) refl) (rw (c .to .ensures, c .before .plus2 .ensures) (went-writes _ _ _ _ _ _ _ _ (rw (c .before .before .before .before .before .before .from-constant .ensures, c .before .before .before .before .before .before .before .plus .ensures) at (c .before .before .write .ensures))) ∙ decided (c .before .before .before .before .before .before .before .before .before .before .args .start) _ _ m _ _ (jumped _ (c .before .before .before .before .before .before .before .before .parts .result .op) (c .before .before .before .before .before .before .before .before .parts .result .a) (c .before .before .before .before .before .before .before .before .parts .result .b) (c .before .before .before .before .before .before .before .before .parts .result .c) (c .before .before .before .before .before .before .before .before .parts .result .imm) _ _ m (rw (c .before .before .before .before .before .before .before .before .parts .ensures) (c .before .before .before .before .before .before .before .before .before .before .pre))) (unsettled _ (c .before .before .before .before .before .before .before .before .parts .result .op) (c .before .before .before .before .before .before .before .before .parts .result .a) (c .before .before .before .before .before .before .before .before .parts .result .b) (c .before .before .before .before .before .before .before .before .parts .result .c) (c .before .before .before .before .before .before .before .before .parts .result .imm) _ (rw (c .before .before .before .before .before .before .before .before .parts .ensures) (c .before .before .before .before .before .before .before .before .before .before .pre)))))
@@ -38,11 +17,11 @@ pub obey-spec : {M : Type 1} → statement M
 obey-spec =
     tie.close
     (tie.spec
-    immediate-requires
-    parts-requires
-    plus-requires
-    from-constant-requires
-    write-requires
-    plus-requires-2
-    to-requires
+    (λ c κs. tt)
+    (λ c κs. tt)
+    (λ c κs. tt)
+    (λ c κs. tt)
+    (λ c κs. tt)
+    (λ c κs. tt)
+    (λ c κs. tt)
     returns)

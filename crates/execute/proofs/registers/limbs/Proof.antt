@@ -3,15 +3,6 @@ use borrow.Author.Needs.{needs}
 use Rattle.execute.proofs.registers.limbs.Statement.{statement}
 use Rattle.execute.proofs.registers.limbs.Tie as tie
 
-enum-told : tie.Need-enum-told
-enum-told c = search needs
-
-limbs-of-registers-requires : tie.Need-limbs-of-registers-requires
-limbs-of-registers-requires c κs = tt
-
-enum-told-2 : tie.Need-enum-told-2
-enum-told-2 c = search needs
-
 returns : tie.Need-returns
 unfolding limbsIn
 returns c = rw (c .before .before .before .before .enum-told .given .1) (rw (c .before .before .before .before .before .before .pre) at (c .limbs-of-registers .ensures))
@@ -22,4 +13,10 @@ returns-2 c = rw (c .enum-told2 .given .1)
 
 pub limbs-spec : {M : Type 1} → statement M
 limbs-spec =
-    tie.close (tie.spec enum-told limbs-of-registers-requires enum-told-2 returns returns-2)
+    tie.close
+    (tie.spec
+    (λ c. search needs)
+    (λ c κs. tt)
+    (λ c. search needs)
+    returns
+    returns-2)

@@ -5,18 +5,15 @@ use mathlib.Core.Path.{refl, _∙_, ap}
 use Rattle.execute.proofs.registers.wholly.Statement.{statement}
 use Rattle.execute.proofs.registers.wholly.Tie as tie
 
-read-requires : tie.Need-read-requires
-read-requires c κs = tt
-
-decide-requires : tie.Need-decide-requires
-decide-requires c κs = tt
-
-carry-requires : tie.Need-carry-requires
-carry-requires c κs = tt
-
 returns : tie.Need-returns
 unfolding seen
 returns c = λ m. c .carry .ensures m ∙ decided (c .before .before .before .before .before .before .before .before .before .args .start) _ _ m _ _ (c .before .before .before .before .decide .ensures .within (rw (c .before .before .before .before .before .before .before .before .before .pre) refl) _ _ _ (c .before .before .before .before .before .before .before .before .before .args .p .imm) _ m (c .before .before .before .before .before .read .ensures)) (settled _ F.R (c .before .before .before .before .before .before .before .before .before .args .p .op) (c .before .before .before .before .before .before .before .before .before .args .p .a) _ _ (c .before .before .before .before .before .before .before .before .before .args .p .imm) _ _ _ (c .before .before .before .before .before .before .before .before .before .pre) refl)
 
 pub wholly-spec : {M : Type 1} → statement M
-wholly-spec = tie.close (tie.spec read-requires decide-requires carry-requires returns)
+wholly-spec =
+    tie.close
+    (tie.spec
+    (λ c κs. tt)
+    (λ c κs. tt)
+    (λ c κs. tt)
+    returns)

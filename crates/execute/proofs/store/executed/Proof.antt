@@ -7,32 +7,8 @@ use borrow.Author.Needs.{needs}
 use Rattle.execute.proofs.store.executed.Statement.{statement}
 use Rattle.execute.proofs.store.executed.Tie as tie
 
-stored-requires : tie.Need-stored-requires
-stored-requires c κs = tt
-
-enum-told : tie.Need-enum-told
-enum-told c = search needs
-
-settle-requires : tie.Need-settle-requires
-settle-requires c κs = tt
-
-onward-requires : tie.Need-onward-requires
-onward-requires c κs = tt
-
-enum-known-r : tie.Need-enum-known-r
-enum-known-r c = search needs
-
-refuse-requires : tie.Need-refuse-requires
-refuse-requires c κs = tt
-
-same-length : tie.Need-same-length
-same-length c = search needs
-
 returns : tie.Need-returns
 returns c = not-on-limbs _ _ _ _ _ _ _ (no-limb-form _ _ F.S (c .before .before .before .before .before .before .before .before .before .before .before .before .before .before .args .p .op) (c .before .before .before .before .before .before .before .before .before .before .before .before .before .before .args .p .a) (c .before .before .before .before .before .before .before .before .before .before .before .before .before .before .args .p .b) (c .before .before .before .before .before .before .before .before .before .before .before .before .before .before .args .p .c) (c .before .before .before .before .before .before .before .before .before .before .before .before .before .before .args .p .imm) _ (c .before .before .before .before .before .before .before .before .before .before .before .before .before .before .pre) refl) (rw (c .onward .ensures, c .before .settle .ensures _) (went-stores _ _ _ _ _ _ _ _ (c .before .before .before .before .before .before .before .before .before .stored .ensures .1) (sym (c .before .before .before .before .before .enum-told .given .1) ∙ c .before .before .before .before .before .before .before .before .before .stored .ensures .0)) ∙ decided (c .before .before .before .before .before .before .before .before .before .before .before .before .before .before .args .start) _ _ _ _ _ (stored _ (c .before .before .before .before .before .before .before .before .before .before .before .before .before .before .args .p .op) (c .before .before .before .before .before .before .before .before .before .before .before .before .before .before .args .p .a) (c .before .before .before .before .before .before .before .before .before .before .before .before .before .before .args .p .b) (c .before .before .before .before .before .before .before .before .before .before .before .before .before .before .args .p .c) (c .before .before .before .before .before .before .before .before .before .before .before .before .before .before .args .p .imm) _ _ _ (c .before .before .before .before .before .before .before .before .before .before .before .before .before .before .pre)) (settled _ F.S (c .before .before .before .before .before .before .before .before .before .before .before .before .before .before .args .p .op) (c .before .before .before .before .before .before .before .before .before .before .before .before .before .before .args .p .a) (c .before .before .before .before .before .before .before .before .before .before .before .before .before .before .args .p .b) (c .before .before .before .before .before .before .before .before .before .before .before .before .before .before .args .p .c) (c .before .before .before .before .before .before .before .before .before .before .before .before .before .before .args .p .imm) _ _ _ (c .before .before .before .before .before .before .before .before .before .before .before .before .before .before .pre) refl))
-
-same-length-2 : tie.Need-same-length-2
-same-length-2 c = search needs
 
 returns-2 : tie.Need-returns-2
 returns-2 c = not-on-limbs _ _ _ _ _ _ _ (no-limb-form _ _ F.S (c .before .before .before .before .before .before .before .before .before .before .before .args .p .op) (c .before .before .before .before .before .before .before .before .before .before .before .args .p .a) (c .before .before .before .before .before .before .before .before .before .before .before .args .p .b) (c .before .before .before .before .before .before .before .before .before .before .before .args .p .c) (c .before .before .before .before .before .before .before .before .before .before .before .args .p .imm) _ (c .before .before .before .before .before .before .before .before .before .before .before .pre) refl) (rw (c .refuse .ensures) (went-unstored _ _ _ _ _ _ _ _ _ (c .before .before .before .before .before .before .stored .ensures .1) (sym (c .before .before .r .given .1) ∙ c .before .before .before .before .before .before .stored .ensures .0)) ∙ decided (c .before .before .before .before .before .before .before .before .before .before .before .args .start) _ _ _ _ _ (stored _ (c .before .before .before .before .before .before .before .before .before .before .before .args .p .op) (c .before .before .before .before .before .before .before .before .before .before .before .args .p .a) (c .before .before .before .before .before .before .before .before .before .before .before .args .p .b) (c .before .before .before .before .before .before .before .before .before .before .before .args .p .c) (c .before .before .before .before .before .before .before .before .before .before .before .args .p .imm) _ _ _ (c .before .before .before .before .before .before .before .before .before .before .before .pre)) refl)
@@ -41,13 +17,13 @@ pub executed-spec : {M : Type 1} → statement M
 executed-spec =
     tie.close
     (tie.spec
-    stored-requires
-    enum-told
-    settle-requires
-    onward-requires
-    enum-known-r
-    refuse-requires
-    same-length
+    (λ c κs. tt)
+    (λ c. search needs)
+    (λ c κs. tt)
+    (λ c κs. tt)
+    (λ c. search needs)
+    (λ c κs. tt)
+    (λ c. search needs)
     returns
-    same-length-2
+    (λ c. search needs)
     returns-2)

@@ -7,17 +7,8 @@ use borrow.Author.Needs.{needs}
 use Rattle.execute.proofs.store.obey.Statement.{statement}
 use Rattle.execute.proofs.store.obey.Tie as tie
 
-immediate-requires : tie.Need-immediate-requires
-immediate-requires c κs = tt
-
-parts-requires : tie.Need-parts-requires
-parts-requires c κs = tt
-
 executed-requires : tie.Need-executed-requires
 executed-requires c κs = rw (c .before .before .before .before .parts .ensures) (c .before .before .before .before .before .before .before .pre)
-
-same-length : tie.Need-same-length
-same-length c = search needs
 
 returns : tie.Need-returns
 unfolding usedBits
@@ -25,4 +16,10 @@ returns c = obeyed-made _ _ _ _ F.S 0 _ (sym (c .before .before .before .before 
 
 pub obey-spec : {M : Type 1} → statement M
 obey-spec =
-    tie.close (tie.spec immediate-requires parts-requires executed-requires same-length returns)
+    tie.close
+    (tie.spec
+    (λ c κs. tt)
+    (λ c κs. tt)
+    executed-requires
+    (λ c. search needs)
+    returns)

@@ -3,47 +3,23 @@ use borrow.Author.Needs.{needs}
 use Rattle.execute.proofs.word.by_form.Statement.{statement}
 use Rattle.execute.proofs.word.by_form.Tie as tie
 
-form-of-requires : tie.Need-form-of-requires
-form-of-requires c κs = tt
-
-enum-told : tie.Need-enum-told
-enum-told c = search needs
-
 obey-requires : tie.Need-obey-requires
 obey-requires c κs = sym (c .before .before .before .before .before .form-of .ensures) ∙ c .before .before .before .enum-told .given .1
-
-enum-told-2 : tie.Need-enum-told-2
-enum-told-2 c = search needs
 
 obey-requires-2 : tie.Need-obey-requires-2
 obey-requires-2 c κs = sym (c .before .before .before .before .before .before .form-of .ensures) ∙ c .before .before .before .before .enum-told2 .given .1
 
-enum-told-3 : tie.Need-enum-told-3
-enum-told-3 c = search needs
-
 obey-shift-requires : tie.Need-obey-shift-requires
 obey-shift-requires c κs = sym (c .before .before .before .before .before .form-of .ensures) ∙ c .before .before .before .enum-told3 .given .1
-
-enum-told-4 : tie.Need-enum-told-4
-enum-told-4 c = search needs
 
 obey-requires-3 : tie.Need-obey-requires-3
 obey-requires-3 c κs = sym (c .before .before .before .before .before .before .form-of .ensures) ∙ c .before .before .before .before .enum-told4 .given .1
 
-enum-told-5 : tie.Need-enum-told-5
-enum-told-5 c = search needs
-
 obey-requires-4 : tie.Need-obey-requires-4
 obey-requires-4 c κs = sym (c .before .before .before .before .before .form-of .ensures) ∙ c .before .before .before .enum-told5 .given .1
 
-enum-told-6 : tie.Need-enum-told-6
-enum-told-6 c = search needs
-
 obey-requires-5 : tie.Need-obey-requires-5
 obey-requires-5 c κs = sym (c .before .before .before .before .before .form-of .ensures) ∙ c .before .before .before .enum-told6 .given .1
-
-enum-told-7 : tie.Need-enum-told-7
-enum-told-7 c = search needs
 
 obey-requires-6 : tie.Need-obey-requires-6
 obey-requires-6 c κs = sym (c .before .before .before .before .before .form-of .ensures) ∙ c .before .before .before .enum-told7 .given .1
@@ -51,20 +27,8 @@ obey-requires-6 c κs = sym (c .before .before .before .before .before .form-of 
 returns : tie.Need-returns
 returns c = c .obey .ensures _
 
-same-length : tie.Need-same-length
-same-length c = search needs
-
-returns-2 : tie.Need-returns-2
-returns-2 c = search needs
-
 returns-3 : tie.Need-returns-3
 returns-3 c = c .obey-shift .ensures _
-
-same-length-2 : tie.Need-same-length-2
-same-length-2 c = search needs
-
-returns-4 : tie.Need-returns-4
-returns-4 c = search needs
 
 returns-5 : tie.Need-returns-5
 returns-5 c = c .obey4 .ensures _
@@ -79,27 +43,27 @@ pub by-form-spec : {M : Type 1} → statement M
 by-form-spec =
     tie.close
     (tie.spec
-    form-of-requires
-    enum-told
+    (λ c κs. tt)
+    (λ c. search needs)
     obey-requires
-    enum-told-2
+    (λ c. search needs)
     obey-requires-2
-    enum-told-3
+    (λ c. search needs)
     obey-shift-requires
-    enum-told-4
+    (λ c. search needs)
     obey-requires-3
-    enum-told-5
+    (λ c. search needs)
     obey-requires-4
-    enum-told-6
+    (λ c. search needs)
     obey-requires-5
-    enum-told-7
+    (λ c. search needs)
     obey-requires-6
     returns
-    same-length
-    returns-2
+    (λ c. search needs)
+    (λ c. search needs)
     returns-3
-    same-length-2
-    returns-4
+    (λ c. search needs)
+    (λ c. search needs)
     returns-5
     returns-6
     returns-7)

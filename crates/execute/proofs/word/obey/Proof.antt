@@ -3,24 +3,6 @@ use borrow.Author.Needs.{needs}
 use Rattle.execute.proofs.word.obey.Statement.{statement}
 use Rattle.execute.proofs.word.obey.Tie as tie
 
-opcode-at-requires : tie.Need-opcode-at-requires
-opcode-at-requires c κs = tt
-
-enum-known-op : tie.Need-enum-known-op
-enum-known-op c = search needs
-
-by-form-requires : tie.Need-by-form-requires
-by-form-requires c κs = tt
-
-enum-told : tie.Need-enum-told
-enum-told c = search needs
-
-refuse-requires : tie.Need-refuse-requires
-refuse-requires c κs = tt
-
-same-length : tie.Need-same-length
-same-length c = search needs
-
 returns : tie.Need-returns
 returns c = obeyed-found _ _ _ _ _ _ _ (c .before .before .before .before .before .before .before .before .before .before .opcode-at .ensures) (c .before .before .before .before .before .before .before .before .op .given .1) (c .before .before .by-form .ensures)
 
@@ -31,11 +13,11 @@ pub obey-spec : {M : Type 1} → statement M
 obey-spec =
     tie.close
     (tie.spec
-    opcode-at-requires
-    enum-known-op
-    by-form-requires
-    enum-told
-    refuse-requires
-    same-length
+    (λ c κs. tt)
+    (λ c. search needs)
+    (λ c κs. tt)
+    (λ c. search needs)
+    (λ c κs. tt)
+    (λ c. search needs)
     returns
     returns-2)

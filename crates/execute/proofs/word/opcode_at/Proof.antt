@@ -5,14 +5,13 @@ use borrow.Author.Needs.{needs}
 use Rattle.execute.proofs.word.opcode_at.Statement.{statement}
 use Rattle.execute.proofs.word.opcode_at.Tie as tie
 
-cast-opcode-of : tie.Need-cast-opcode-of
-cast-opcode-of c = search needs
-
-opcode-of-requires : tie.Need-opcode-of-requires
-opcode-of-requires c κs = tt
-
 returns : tie.Need-returns
 returns c = rw (c .opcode-of .ensures) (ap (opcodeIn opcodeNumber) (omega arith))
 
 pub opcode-at-spec : {M : Type 1} → statement M
-opcode-at-spec = tie.close (tie.spec cast-opcode-of opcode-of-requires returns)
+opcode-at-spec =
+    tie.close
+    (tie.spec
+    (λ c. search needs)
+    (λ c κs. tt)
+    returns)

@@ -9,4 +9,8 @@ returns-2 : tie.Need-returns-2
 returns-2 c = rw (not-false (c .before .before .args .taken) (c .before .if1 .left))
 
 pub begin-spec : {M : Type 1} → statement M
-begin-spec = tie.close (tie.spec returns returns-2)
+begin-spec =
+    tie.close
+    (tie.spec
+    returns
+    returns-2)

@@ -2,18 +2,6 @@ use Rattle.run.specs.Run.{stopOf}
 use Rattle.run.proofs.legs.stop_of.Statement.{statement}
 use Rattle.run.proofs.legs.stop_of.Tie as tie
 
-enum-told : tie.Need-enum-told
-enum-told c = c .match .keys1
-
-enum-told-2 : tie.Need-enum-told-2
-enum-told-2 c = c .match .keys2
-
-enum-told-3 : tie.Need-enum-told-3
-enum-told-3 c = c .match .keys3
-
-enum-known-went : tie.Need-enum-known-went
-enum-known-went c = c .match .keys4
-
 returns : tie.Need-returns
 unfolding stopOf
 returns c = rw (c .enum-told .given .1)
@@ -34,10 +22,10 @@ pub stop-of-spec : {M : Type 1} → statement M
 stop-of-spec =
     tie.close
     (tie.spec
-    enum-told
-    enum-told-2
-    enum-told-3
-    enum-known-went
+    (λ c. c .match .keys1)
+    (λ c. c .match .keys2)
+    (λ c. c .match .keys3)
+    (λ c. c .match .keys4)
     returns
     returns-2
     returns-3

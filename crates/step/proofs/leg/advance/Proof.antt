@@ -25,20 +25,8 @@ abbrev μ-loop : tie.MeasureT-loop
 loop-holds : tie.Need-loop-holds Inv-loop μ-loop
 loop-holds c = (refl, omega arith, begins _ _ _ _ _)
 
-step-in-requires : tie.Need-step-in-requires Inv-loop μ-loop
-step-in-requires c κs = tt
-
-passes-requires : tie.Need-passes-requires Inv-loop μ-loop
-passes-requires c κs = tt
-
-counted-requires : tie.Need-counted-requires Inv-loop μ-loop
-counted-requires c κs = tt
-
 add-steps : tie.Need-add-steps Inv-loop μ-loop
 add-steps c = steps-fit _ _ _ (c .before .before .before .before .before .before .before .before .before .before .loop-test .taken) (c .counted .ensures .1) (c .before .before .before .before .before .before .before .before .before .before .before .before .before .before .before .before .fits .fuel)
-
-together-requires : tie.Need-together-requires Inv-loop μ-loop
-together-requires c κs = tt
 
 same-length : tie.Need-same-length Inv-loop μ-loop
 same-length c = c .before .before .before .before .before .m .given ∙ c .before .before .before .before .before .before .before .before .before .before .before .before .loop .inv .0
@@ -55,9 +43,6 @@ loop-less c = less-left _ _ (c .before .before .before .before .before .before .
 loop-again : tie.Need-loop-again Inv-loop μ-loop
 loop-again c = (c .before .before .before .m .given ∙ c .before .before .before .before .before .before .before .before .before .before .loop .inv .0, one-more _ _ (c .before .before .before .before .before .before .before .before .before .loop-test .taken), sym (passes-on _ _ _ (c .before .before .before .before .before .before .before .before .before .before .before .before .before .before .before .args .fuel) (c .before .before .before .before .before .before .before .before .before .before .loop .n) _ _ _ _ (c .before .before .before .before .before .before .before .before .before .loop-test .taken) (c .before .before .before .before .step-in .ensures) (sym (c .before .passes .ensures) ∙ not-false _ (c .if1 .left))) ∙ c .before .before .before .before .before .before .before .before .before .before .loop .inv .2)
 
-together-requires-2 : tie.Need-together-requires-2 Inv-loop μ-loop
-together-requires-2 c κs = tt
-
 same-length-2 : tie.Need-same-length-2 Inv-loop μ-loop
 same-length-2 c = c .before .before .loop .inv .0
 
@@ -71,16 +56,16 @@ advance-spec =
     Inv-loop
     μ-loop
     loop-holds
-    step-in-requires
-    passes-requires
-    counted-requires
+    (λ c κs. tt)
+    (λ c κs. tt)
+    (λ c κs. tt)
     add-steps
-    together-requires
+    (λ c κs. tt)
     same-length
     returns
     add-n
     loop-less
     loop-again
-    together-requires-2
+    (λ c κs. tt)
     same-length-2
     returns-2)

@@ -3,18 +3,6 @@ use native.Mathlib.Omega.{arith}
 use Rattle.step.proofs.leg.counted.Statement.{statement}
 use Rattle.step.proofs.leg.counted.Tie as tie
 
-enum-told : tie.Need-enum-told
-enum-told c = c .match .keys1
-
-enum-told-2 : tie.Need-enum-told-2
-enum-told-2 c = c .match .keys2
-
-enum-told-3 : tie.Need-enum-told-3
-enum-told-3 c = c .match .keys3
-
-enum-told-4 : tie.Need-enum-told-4
-enum-told-4 c = c .match .keys4
-
 returns : tie.Need-returns
 unfolding counted
 returns c = (rw (c .enum-told .given .1), omega arith)
@@ -34,4 +22,12 @@ returns-4 c = (rw (c .enum-told4 .given .1), omega arith)
 pub counted-spec : {M : Type 1} → statement M
 counted-spec =
     tie.close
-    (tie.spec enum-told enum-told-2 enum-told-3 enum-told-4 returns returns-2 returns-3 returns-4)
+    (tie.spec
+    (λ c. c .match .keys1)
+    (λ c. c .match .keys2)
+    (λ c. c .match .keys3)
+    (λ c. c .match .keys4)
+    returns
+    returns-2
+    returns-3
+    returns-4)

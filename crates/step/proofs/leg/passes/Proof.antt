@@ -3,17 +3,17 @@ use mathlib.Core.Path.{sym, _∙_}
 use Rattle.step.proofs.leg.passes.Statement.{statement}
 use Rattle.step.proofs.leg.passes.Tie as tie
 
-goes-on-requires : tie.Need-goes-on-requires
-goes-on-requires c κs = tt
-
 returns : tie.Need-returns
 returns c = rw (sym (c .before .goes-on .ensures) ∙ not-true _ (c .if1 .taken))
-
-unlisted-requires : tie.Need-unlisted-requires
-unlisted-requires c κs = tt
 
 returns-2 : tie.Need-returns-2
 returns-2 c = rw (sym (c .before .before .goes-on .ensures) ∙ not-false _ (c .before .if1 .left)) (c .unlisted .ensures)
 
 pub passes-spec : {M : Type 1} → statement M
-passes-spec = tie.close (tie.spec goes-on-requires returns unlisted-requires returns-2)
+passes-spec =
+    tie.close
+    (tie.spec
+    (λ c κs. tt)
+    returns
+    (λ c κs. tt)
+    returns-2)

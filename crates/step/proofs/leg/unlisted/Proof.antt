@@ -3,18 +3,6 @@ use borrow.Author.Needs.{needs}
 use Rattle.step.proofs.leg.unlisted.Statement.{statement}
 use Rattle.step.proofs.leg.unlisted.Tie as tie
 
-enum-told : tie.Need-enum-told
-enum-told c = search needs
-
-enum-told-2 : tie.Need-enum-told-2
-enum-told-2 c = search needs
-
-enum-told-3 : tie.Need-enum-told-3
-enum-told-3 c = search needs
-
-enum-told-4 : tie.Need-enum-told-4
-enum-told-4 c = search needs
-
 returns : tie.Need-returns
 unfolding unlisted
 returns c = rw (c .enum-told .given .1)
@@ -29,4 +17,12 @@ returns-3 c = rw (c .before .before .enum-told2 .given .1, c .enum-told4 .given 
 
 pub unlisted-spec : {M : Type 1} → statement M
 unlisted-spec =
-    tie.close (tie.spec enum-told enum-told-2 enum-told-3 enum-told-4 returns returns-2 returns-3)
+    tie.close
+    (tie.spec
+    (λ c. search needs)
+    (λ c. search needs)
+    (λ c. search needs)
+    (λ c. search needs)
+    returns
+    returns-2
+    returns-3)
