@@ -1,5 +1,5 @@
-//! Prints a zkIR program's run step by step: pc, word, the instruction in words, and the registers that changed, with their
-//! limbs where they have them.
+//! Prints a zkIR program's run step by step: pc, word, the instruction in words, and what changed, registers with their limbs
+//! where they have them, and bytes of memory.
 //!
 //!     cargo run --example trace -- [plain | deferred | both] [STEPS] FILE
 //!
@@ -124,9 +124,11 @@ struct Run {
     mode: Mode,
     state: State,
     memory: Vec<u8>,
+    /// Memory as it was told.
+    told: Vec<u8>,
 }
 
-/// What a step did, and the registers that it changed.
+/// What a step did, and what it changed.
 struct Told {
     stepped: Stepped,
     changes: String,
@@ -140,7 +142,7 @@ struct Instruction {
 
 impl Run {
     fn new(mode: Mode, memory: &[u8]) -> Run {
-        Run { mode, state: State::new(0), memory: memory.to_vec() }
+        Run { mode, state: State::new(0), memory: memory.to_vec(), told: memory.to_vec() }
     }
 
     fn instruction(&self) -> Instruction {
@@ -154,8 +156,22 @@ impl Run {
         let before = self.state.clone();
         let stepped = step(&mut self.state, &mut self.memory, self.mode, &mut Checks::none());
         let changed = (0..REGISTERS).filter(|&n| self.state.register(n) != before.register(n));
-        let changes: Vec<String> = changed.map(|n| format!("R{n} = {}", self.state.register(n))).collect();
+        let mut changes: Vec<String> = changed.map(|n| format!("R{n} = {}", self.state.register(n))).collect();
+        changes.extend(self.changed_bytes());
         Told { stepped, changes: changes.join(", ") }
+    }
+
+    /// The bytes of memory that changed, from the first to the last.
+    fn changed_bytes(&mut self) -> Option<String> {
+        if self.memory == self.told {
+            return None;
+        }
+        let differs = |at: &usize| self.memory[*at] != self.told[*at];
+        let (first, last) = ((0..MEMORY_BYTES).find(differs)?, (0..MEMORY_BYTES).rev().find(differs)?);
+        let changed = &self.memory[first..=last];
+        self.told[first..=last].copy_from_slice(changed);
+        let bytes: Vec<String> = changed.iter().map(|byte| format!("{byte:02X}")).collect();
+        Some(format!("memory from {first}: {}", bytes.join(" ")))
     }
 }
 
