@@ -4,7 +4,7 @@ use mathlib.Core.Path.{_≡_, _∙_}
 use mathlib.Core.List.{List, [], append-nil}
 use native.Mathlib.Omega.{arith}
 use lib.ListN.{length, drop, drop-of-length-le}
-use lib.Seq.{sets, sets-eq}
+use lib.Seq.{sets-eq}
 use borrow.Author.Tests.{eq-eqb, ne-eqb}
 use Rattle.memory.specs.Bytes.{bytes, putAt}
 use Rattle.layout.specs.Layout.{written}
