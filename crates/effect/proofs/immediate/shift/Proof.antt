@@ -5,6 +5,7 @@ use Rattle.opcode.specs.Opcodes.{all}
 use Rattle.effect.specs.Effects.{effect}
 use Rattle.effect.specs.Notes.{resultBits}
 use Rattle.effect.specs.Operations.{result, registerForm}
+use borrow.Author.Needs.{needs}
 use Rattle.effect.proofs.immediate.shift.Statement.{statement}
 use Rattle.effect.proofs.immediate.shift.Tie as tie
 
@@ -28,54 +29,18 @@ pub shift-spec : {M : Type 1} → statement M
 shift-spec =
     tie.close
     (tie.spec
-    (λ
-    c.
-    search
-    needs)
-    (λ
-    c
-    κs.
-    tt)
-    (λ
-    c
-    κs.
-    tt)
-    (λ
-    c
-    κs.
-    tt)
-    (λ
-    c.
-    search
-    needs)
-    (λ
-    c
-    κs.
-    tt)
-    (λ
-    c
-    κs.
-    tt)
-    (λ
-    c
-    κs.
-    tt)
-    (λ
-    c.
-    search
-    needs)
-    (λ
-    c
-    κs.
-    tt)
-    (λ
-    c
-    κs.
-    tt)
-    (λ
-    c
-    κs.
-    tt)
+    (λ c. search needs)
+    (λ c κs. tt)
+    (λ c κs. tt)
+    (λ c κs. tt)
+    (λ c. search needs)
+    (λ c κs. tt)
+    (λ c κs. tt)
+    (λ c κs. tt)
+    (λ c. search needs)
+    (λ c κs. tt)
+    (λ c κs. tt)
+    (λ c κs. tt)
     returns
     returns-2
     returns-3
