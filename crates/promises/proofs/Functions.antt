@@ -2,6 +2,7 @@
 -- crate·module·function, and `tools/promises` holds this list to the source.
 use mathlib.Core.Path.{refl, ap}
 use mathlib.Core.List.{[]}
+use denote.Ref.{now}
 use Rattle.encoding.proofs as encoding
 use Rattle.value.proofs as value
 use Rattle.bound.proofs as bound
@@ -395,13 +396,13 @@ pub effect·branch·taken : Determined effect.branch.taken.ended effect.branch.t
 effect·branch·taken κs a x y = one (λ r. r & x .1)
 
 pub effect·immediate·decide : Determined effect.immediate.decide.ended effect.immediate.decide.Reads.Learnt
-effect·immediate·decide κs a x y = λ p q. ap (λ (r : Turn). r & x .1) (one-turn _ _ _ _ _ p q)
+effect·immediate·decide κs a x y = λ p q. ap (λ (r : Turn). r & x .1) (one-turn (a .0) (a .1 .0) (now (a .1 .1 .0)) _ _ p q)
 
 pub effect·immediate·shift : Determined effect.immediate.shift.ended effect.immediate.shift.Reads.Learnt
-effect·immediate·shift κs a x y = λ p q. ap (λ (r : Turn). r & x .1) (one-shift _ _ _ _ p q)
+effect·immediate·shift κs a x y = λ p q. ap (λ (r : Turn). r & x .1) (one-shift (a .0) (a .1 .0) _ _ p q)
 
 pub effect·registers·decide : Determined effect.registers.decide.ended effect.registers.decide.Reads.Learnt
-effect·registers·decide κs a x y = λ p q. ap (λ (r : Deed). r & x .1) (one-deed _ _ _ _ p q)
+effect·registers·decide κs a x y = λ p q. ap (λ (r : Deed). r & x .1) (one-deed (a .0) (a .1 .0) _ _ p q)
 
 pub effect·store·size-of : Determined effect.store.size_of.ended effect.store.size_of.Reads.Learnt
 effect·store·size-of κs a x y = one (λ r. r & x .1)
