@@ -79,6 +79,22 @@ fn a_shift_amount_that_fits_no_word() {
     assert_eq!(refused(r1(Held::Whole(1)), slli, RangeCheckTracker::none()), Refusal::Malformed);
 }
 
+/// Addi R1,R0,65536 and Jal R1,2^20 given: the text takes them as they are; 01 refuses (9) what the encoder refuses.
+#[test]
+fn an_immediate_that_fits_no_word() {
+    let addi = Instruction::Addi { rd: R1, rs1: R0, imm: 0x1_0000 };
+    let mut state = VMState::fresh();
+    assert_eq!(by_the_text(addi, &mut state, None), Ok(()));
+    assert_eq!((state.read_reg(R1), state.pc), (0x1_0000, 4));
+    assert_eq!(refused(VMState::fresh(), addi, RangeCheckTracker::none()), Refusal::Malformed);
+
+    let jal = Instruction::Jal { rd: R1, offset: 0x10_0000 };
+    let mut state = VMState::fresh();
+    assert_eq!(by_the_text(jal, &mut state, None), Ok(()));
+    assert_eq!((state.read_reg(R1), state.pc), (4, 0x10_0000));
+    assert_eq!(refused(VMState::fresh(), jal, RangeCheckTracker::none()), Refusal::Malformed);
+}
+
 /// Add R1,R1,R1, R1 = 1 of 40 bits, a list without room: the text looks at no answer of the list and goes on; 01 refuses (8).
 #[test]
 fn a_check_that_finds_the_list_full() {

@@ -5,13 +5,13 @@ use mathlib.Core.Bool.{Bool, true, false}
 use mathlib.Core.List.{List, _∷_}
 use lib.Dec.{eqb, lit<}
 use native.Mathlib.Omega.{arith}
-use Rattle.memory.specs.Bytes.{numberOfBytes, bytes}
+use Rattle.memory.specs.Bytes.{bit, numberOfBytes, bytes}
 use Rattle.state.specs.Held.{Held, Whole, Limbs, lowOf, highOf, valueOf, heldOf, kept, waits}
 use Rattle.state.specs.Registers.{Registers, registers, holds, noted}
 use Rattle.state.specs.Formed.{wellFormed, registersOf}
 use Rattle.state.specs.declared.State.{State}
 use Rattle.execute.specs.World.{World, world, worldOf}
-use Rattle.layout.specs.Layout.{markOf, headerBytes, kindOf, firstOf, secondOf, recordBytes, records, stateBytes, heldBy, table, stateIn}
+use Rattle.layout.specs.Layout.{headerBytes, kindOf, firstOf, secondOf, recordBytes, records, stateBytes, heldBy, table, stateIn}
 use Rattle.host.specs.Call.{stateOf}
 use Rattle.layout.proofs.Numbers.{number-bytes}
 use Rattle.layout.proofs.Contents.{held-packed}
@@ -31,7 +31,7 @@ stateAgain s =
     let R = registersOf s in
     record {
       pc = again 8 (s .pc);
-      halted = eqb (again 1 (markOf (s .halted))) 1;
+      halted = eqb (again 1 (bit (s .halted))) 1;
       regs = table 16 0 (λ i. kept (heldAgain (holds R i)));
       accumulated = table 16 0 (λ i. waits (heldAgain (holds R i)));
       bounds = table 16 0 (λ i. again 1 (noted R i));
@@ -72,7 +72,7 @@ same R i = rw (read-held R i)
 -- ---- the world of values that the bytes of a world hold
 abbrev pub inBytes : World → World
 inBytes v =
-    world (again 8 (v .pc)) (eqb (again 1 (markOf (v .halted))) 1)
+    world (again 8 (v .pc)) (eqb (again 1 (bit (v .halted))) 1)
     (registers (table 16 0 (λ i. again 8 (valueOf (holds (v .registers) i)))) (table 16 0 (λ _. false)) (table 16 0 (λ i. again 1 (noted (v .registers) i))))
     (v .memory)
 
@@ -80,5 +80,5 @@ pub bytes-read : (w : World) → wellFormed (w .registers) ≡ true → readWorl
 bytes-read w e =
     let R = w .registers in
     rw (state-again (stateOf w), read-table 16 0 (λ i. heldAgain (holds R i)), no-marks 16 0 (λ i. waits (heldAgain (holds R i))))
-    (ap (λ (f : ℕ → ℕ). world (again 8 (w .pc)) (eqb (again 1 (markOf (w .halted))) 1) (registers (table 16 0 f) (table 16 0 (λ _. false)) (table 16 0 (λ i. again 1 (noted R i)))) (w .memory))
+    (ap (λ (f : ℕ → ℕ). world (again 8 (w .pc)) (eqb (again 1 (bit (w .halted))) 1) (registers (table 16 0 f) (table 16 0 (λ _. false)) (table 16 0 (λ i. again 1 (noted R i)))) (w .memory))
     (fun-ext (λ i. ap valueOf (held-packed (again 1 (kindOf (holds R i))) _ _) ∙ value-again (holds R i) (formed R e .small i) ∙ same R i)))

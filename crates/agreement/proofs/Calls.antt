@@ -6,6 +6,7 @@ use mathlib.Core.List.{List}
 use lib.ListN.{length}
 use lib.Dec.{eqb}
 use native.Mathlib.Omega.{arith}
+use Rattle.pending.specs.Pending.{noLists}
 use Rattle.refusal.specs.Stops.{codeOf, particularAt}
 use Rattle.state.specs.Formed.{wellFormed, allWhole, registersOf}
 use Rattle.execute.specs.World.{World, worldOf}
@@ -17,7 +18,7 @@ use Rattle.run.specs.Run.{Answer, run}
 use Rattle.layout.specs.Layout.{table, stateIn, wellLaid}
 use Rattle.layout.specs.Answer.{ANSWER_BYTES, answerBytes}
 use Rattle.host.specs.Call.{modeOf, callTaken, callServed, ranOn, callOf}
-use Rattle.agreement.specs.Reading.{readAnswer, ReadCall, readCall, Sized, noLists}
+use Rattle.agreement.specs.Reading.{readAnswer, ReadCall, readCall, Sized}
 use Rattle.agreement.specs.Statements.{CallsAgree, RefusedCallsAgree}
 use Rattle.agreement.proofs.Formed.{both-true}
 use Rattle.agreement.proofs.Capped.{document-capped}

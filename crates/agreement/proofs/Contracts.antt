@@ -8,12 +8,12 @@ use denote.Triple.Entry.{Args}
 use borrow.Fn.Kinds.{GoodsP}
 use Rattle.execute.specs.World.{World}
 use Rattle.execute.specs.declared.Mode.the-variants.{Plain, Deferred}
-use Rattle.pending.specs.Pending.{Lists}
+use Rattle.pending.specs.Pending.{Lists, noLists}
 use Rattle.execute.specs.Rules.{documentRules}
 use Rattle.run.specs.Run.{run}
 use Rattle.run.proofs.run_deferred
 use Rattle.host.specs.Call.{Called, callOf}
-use Rattle.agreement.specs.Reading.{readAnswer, readCall, Sized, noLists}
+use Rattle.agreement.specs.Reading.{readAnswer, readCall, Sized}
 use Rattle.agreement.specs.Contracts.{worldGiven, fuelGiven, CallGiven, callGiven}
 use Rattle.agreement.specs.Statements.{AnswersAgree, HostCallsAgree}
 use Rattle.agreement.proofs.Runs.{runs-agree}

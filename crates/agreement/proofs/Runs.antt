@@ -21,14 +21,14 @@ use Rattle.execute.specs.World.{World, Stepped}
 use Rattle.execute.specs.Execute.{admits}
 use Rattle.execute.specs.declared.Mode.{Mode}
 use Rattle.execute.specs.declared.Mode.the-variants.{Plain, Deferred}
-use Rattle.pending.specs.Pending.{Lists, Check, listsFit, roomAt, listing}
+use Rattle.pending.specs.Pending.{Lists, Check, listsFit, roomAt, listing, noLists}
 use Rattle.pending.proofs.Lists.{unlent-stays}
 use Rattle.pending.specs.declared.Room.the-variants.{Unlent}
 use Rattle.execute.specs.Rules.{Rules, obey}
 use Rattle.step.specs.Step.{fetched, Left, left, stepOf}
 use Rattle.step.specs.Leg.{goesOn}
 use Rattle.run.specs.Run.{Answer, answer, preceded, following, loop, run}
-use Rattle.agreement.specs.Reading.{noMarks, readAll, readWorld, unchecked, readStep, Sized, noLists, readAnswer}
+use Rattle.agreement.specs.Reading.{noMarks, readAll, readWorld, unchecked, readStep, Sized, readAnswer}
 use Rattle.agreement.specs.Keeping.{Formed}
 use Rattle.agreement.specs.Statements.{RunsAgree, RunsOnValues}
 use Rattle.agreement.proofs.Formed.{both-true, all-from, formed, well-formed}

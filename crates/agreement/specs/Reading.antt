@@ -6,7 +6,6 @@ use lib.ListN.{length}
 use Rattle.state.specs.Held.{valueOf, heldOf}
 use Rattle.state.specs.Registers.{Registers, registers}
 use Rattle.execute.specs.World.{World, world, worldOf, Stepped, stepped}
-use Rattle.pending.specs.Pending.{Lists, lists}
 use Rattle.run.specs.Run.{Answer, answer}
 use Rattle.layout.specs.Layout.{stateIn}
 use Rattle.host.specs.Call.{Called}
@@ -38,10 +37,6 @@ readStep s = stepped (s .went) (readWorld (s .world)) []
 -- a mark for each of the sixteen, as every state has
 abbrev pub Sized : Registers → Type 0
 Sized R = 16 ≤ length (R .accumulated)
-
--- "no list lent"
-abbrev pub noLists : Lists
-noLists = lists 0 [] [] []
 
 -- a run's answer: the stop with its particulars, the steps, the pc, the halt mark, the memory, the bounds and the values
 abbrev pub readAnswer : Answer → Answer

@@ -15,7 +15,7 @@ use Rattle.execute.specs.World.{World}
 use Rattle.execute.specs.Execute.{execute, admits}
 use Rattle.execute.specs.declared.Mode.{Mode}
 use Rattle.execute.specs.declared.Mode.the-variants.{Plain, Deferred}
-use Rattle.pending.specs.Pending.{Lists}
+use Rattle.pending.specs.Pending.{Lists, noLists}
 use Rattle.pending.specs.declared.Room.{Room}
 use Rattle.pending.specs.declared.Room.the-variants.{Unlent}
 use Rattle.execute.specs.Rules.{Rules}
@@ -26,7 +26,7 @@ use Rattle.run.proofs.run_deferred
 use Rattle.layout.specs.Layout.{stateIn}
 use Rattle.host.specs.Call.{callTaken, callOf}
 use Rattle.host.proofs.zkir_run
-use Rattle.agreement.specs.Reading.{readWorld, unchecked, readStep, readAnswer, readCall, noLists, Sized}
+use Rattle.agreement.specs.Reading.{readWorld, unchecked, readStep, readAnswer, readCall, Sized}
 use Rattle.agreement.specs.Contracts.{Leaves, Allows, worldGiven, fuelGiven, listsGiven, ranTo, callGiven, modeGiven, calledTo}
 use Rattle.agreement.specs.Keeping.{Capped, Normalised}
 

@@ -16,9 +16,9 @@ bitsOf x = 64 - leadingZeros 64 x
 abbrev pub afterAdd : ℕ → ℕ → ℕ
 afterAdd a b = capped (max a b + 1)
 
--- "Sub, Or, Xor: larger."
-abbrev pub afterSub : ℕ → ℕ → ℕ
-afterSub a b = capped (max a b)
+-- "Sub, Or, Xor: larger." "A move that happens: larger of source's and destination's."
+abbrev pub afterLarger : ℕ → ℕ → ℕ
+afterLarger a b = capped (max a b)
 
 -- "Mul, Mulh: sum."
 abbrev pub afterMul : ℕ → ℕ → ℕ
@@ -47,10 +47,6 @@ afterSra b k = cond (leb 40 b) 40 (afterSrl b k)
 -- "Comparison 1."
 abbrev pub afterCmp : ℕ
 afterCmp = 1
-
--- "A move that happens: larger of source's and destination's."
-abbrev pub afterMove : ℕ → ℕ → ℕ
-afterMove source destination = capped (max source destination)
 
 -- "Loads 8, 16, 32, and 40 for Ld, signed loads too", of a load's size in bytes
 abbrev pub afterLoad : ℕ → ℕ

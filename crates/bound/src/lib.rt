@@ -1,7 +1,7 @@
 // Notes of how many bits a value has, as `ValueBound`: what each kind of result notes.
 ghost use mathlib.Core.Path.{_≡_};
 ghost use Prim.Native.Nat.{max};
-ghost use Rattle.bound.specs.Bits.{capped, bitsOf, afterAdd, afterSub, afterMul, afterDiv, afterAnd, afterShl, afterSrl, afterSra, afterCmp, afterMove, afterLoad, needsCheck};
+ghost use Rattle.bound.specs.Bits.{capped, bitsOf, afterAdd, afterLarger, afterMul, afterDiv, afterAnd, afterShl, afterSrl, afterSra, afterCmp, afterLoad, needsCheck};
 
 // The bits that a constant needs, for immediates and return addresses: the width less its leading zeros.
 pub fn from_constant(x: u64) -> u8
@@ -25,27 +25,23 @@ fn larger(a: u8, b: u8) -> u8
 pub fn after_add(a: u8, b: u8) -> u8
     ensures { λ r. ⌜ r ≡ afterAdd a b ⌝ }
 {
-    cap(cap(larger(a, b)) + 1)
+    let m = larger(a, b);
+    if m < 63 { m + 1 } else { 64 }
 }
 
-// Sub, Or and Xor.
-pub fn after_sub(a: u8, b: u8) -> u8
-    ensures { λ r. ⌜ r ≡ afterSub a b ⌝ }
+// Sub, Or and Xor; and of a move that happens, the source's and the destination's.
+pub fn after_larger(a: u8, b: u8) -> u8
+    ensures { λ r. ⌜ r ≡ afterLarger a b ⌝ }
 {
     cap(larger(a, b))
-}
-
-pub fn after_move(source: u8, destination: u8) -> u8
-    ensures { λ r. ⌜ r ≡ afterMove source destination ⌝ }
-{
-    cap(larger(source, destination))
 }
 
 // Mul and Mulh.
 pub fn after_mul(a: u8, b: u8) -> u8
     ensures { λ r. ⌜ r ≡ afterMul a b ⌝ }
 {
-    cap(cap(a) + cap(b))
+    let sum = a as u32 + b as u32;
+    if sum < 64 { sum as u8 } else { 64 }
 }
 
 // Div, Divu, Rem and Remu, of the dividend's bits.

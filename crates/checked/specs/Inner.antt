@@ -1,4 +1,4 @@
--- What the inner functions promise, each of every list of the room that it was told. These definitions serve private contracts alone.
+-- Inner: what the private functions promise, each of every list of the room that it was told.
 use Prim.Native.Nat.{ℕ, _+_, _<_, _^_}
 use mathlib.Core.Path.{_≡_}
 use mathlib.Core.List.{List}

@@ -1,4 +1,4 @@
--- What `place_for` promises. This definition serves a private contract alone.
+-- Inner: what `place_for` promises.
 use Prim.Native.Nat.{ℕ}
 use mathlib.Core.Path.{_≡_}
 use mathlib.Core.List.{List}

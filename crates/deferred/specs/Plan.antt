@@ -1,5 +1,4 @@
--- What the code decides on before anything changes: what it reads of a source, and what a limb form then does to the registers.
--- These definitions serve private contracts alone.
+-- Inner: what the code decides on before anything changes: what it reads of a source, and what a limb form then does to the registers.
 use Prim.Native.Nat.{ℕ, _%_, _^_, _<_}
 use mathlib.Core.Path.{_≡_}
 use mathlib.Core.Bool.{true, false, cond}

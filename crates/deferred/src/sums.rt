@@ -3,7 +3,7 @@ ghost use mathlib.Core.Path.{_≡_};
 ghost use mathlib.Core.Bool.{true, false, cond, _&&_};
 ghost use Prim.Native.Nat.{_+_, _-_, _*_, _/_, _%_, _^_};
 ghost use lib.Dec.{ltb};
-ghost use Rattle.bound.specs.Bits.{bitsOf, afterAdd, afterSub};
+ghost use Rattle.bound.specs.Bits.{bitsOf, afterAdd, afterLarger};
 ghost use Rattle.state.specs.Held.{Whole, Limbs, valueOf};
 ghost use Rattle.state.specs.Registers.{put, normalise};
 ghost use Rattle.deferred.specs.Limbs.{sumInto, covers, limbed};
@@ -110,7 +110,7 @@ fn covered(x: Operand, y: Operand) -> bool
 // By limbs only if neither limb borrows.
 pub(crate) fn difference(x: Operand, y: Operand) -> Plan
     requires { ⌜ Small x ⌝ }
-    ensures { λ k. ⌜ Plans k (λ rd rs1 R. cond (covers (limbsOf x) (limbsOf y)) (limbed true (put R rd (Limbs (x .low - y .low) (x .high - y .high)) (afterSub (x .bound) (y .bound)))) (limbed false R)) ⌝ }
+    ensures { λ k. ⌜ Plans k (λ rd rs1 R. cond (covers (limbsOf x) (limbsOf y)) (limbed true (put R rd (Limbs (x .low - y .low) (x .high - y .high)) (afterLarger (x .bound) (y .bound)))) (limbed false R)) ⌝ }
 {
     if !covered(x, y) {
         return unplanned();
@@ -120,6 +120,6 @@ pub(crate) fn difference(x: Operand, y: Operand) -> Plan
         forced: false,
         rs2: 0,
         kept: x.low - y.low + 0x4000_0000 * (x.high - y.high),
-        bound: bound::after_sub(x.bound, y.bound),
+        bound: bound::after_larger(x.bound, y.bound),
     }
 }

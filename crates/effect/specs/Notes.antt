@@ -1,6 +1,6 @@
 -- The notes of bounds, as a record that the definitions of instructions take: document 01's rules are one.
 use Prim.Native.Nat.{ℕ, _%_}
-use Rattle.bound.specs.Bits.{bitsOf, afterAdd, afterSub, afterMul, afterDiv, afterAnd, afterShl, afterSrl, afterSra, afterCmp, afterMove, afterLoad}
+use Rattle.bound.specs.Bits.{bitsOf, afterAdd, afterLarger, afterMul, afterDiv, afterAnd, afterShl, afterSrl, afterSra, afterCmp, afterLoad}
 use Rattle.memory.specs.Memory.{sizeOf}
 use Rattle.effect.specs.Operations.{loadSize}
 use Rattle.instruction.specs.declared.Division.{Division}
@@ -24,8 +24,8 @@ pub record Notes : Type 0 where
 unfoldable pub resultBits : Operation → ℕ → ℕ → ℕ → ℕ
 resultBits Mulh x y b = afterMul x y
 resultBits And x y b = afterAnd x y
-resultBits Or x y b = afterSub x y
-resultBits Xor x y b = afterSub x y
+resultBits Or x y b = afterLarger x y
+resultBits Xor x y b = afterLarger x y
 resultBits Sll x y b = afterShl x (b % 64)
 resultBits Srl x y b = afterSrl x (b % 64)
 resultBits Sra x y b = afterSra x (b % 64)
@@ -40,11 +40,11 @@ abbrev pub documentNotes : Notes
 documentNotes =
     record {
       sum = afterAdd;
-      difference = afterSub;
+      difference = afterLarger;
       product = afterMul;
       quotient = λ op x y. afterDiv x;
       result = resultBits;
-      moved = afterMove;
+      moved = afterLarger;
       loaded = λ op. afterLoad (sizeOf (loadSize op));
       immediate = bitsOf;
       link = bitsOf;

@@ -1,12 +1,13 @@
 -- What each operation computes of whole values. Document 01: "Seq, Sne, Beq, Bne, the moves, division, Mulh and addresses use all 64
 -- [bits]; the other instructions follow execute.rs", which takes the low 40.
 use Prim.Native.Nat.{ℕ, _+_, _%_, _^_}
-use mathlib.Core.Bool.{Bool, cond, not}
+use mathlib.Core.Bool.{Bool, not}
 use lib.Dec.{eqb}
 use Rattle.encoding.specs.Fields.{extended}
 use Rattle.value.specs.Forty.{and40, or40, xor40, shl40, shr40, sra40, slt40, ult40}
 use Rattle.value.specs.Product.{mulhOf}
 use Rattle.value.specs.Division.{divOf, divuOf, remOf, remuOf}
+use Rattle.memory.specs.Bytes.{bit}
 use Rattle.memory.specs.declared.Size.{Size}
 use Rattle.memory.specs.declared.Size.the-variants.{Byte, Half, Word, Double}
 use Rattle.instruction.specs.declared.Division.{Division}
@@ -33,10 +34,6 @@ divided Div a b = divOf a b
 divided Divu a b = divuOf a b
 divided Rem a b = remOf a b
 divided Remu a b = remuOf a b
-
--- a comparison's result
-abbrev pub bit : Bool → ℕ
-bit t = cond t 1 0
 
 -- a register's shift amount is its low six bits
 unfoldable pub result : Operation → ℕ → ℕ → ℕ

@@ -1,4 +1,4 @@
--- What the tables of the forms answer, read as outcomes. No definition of document 01 rests on these.
+-- Inner: what the tables of the forms answer, read as outcomes.
 use Prim.Native.Nat.{ℕ}
 use mathlib.Core.Path.{_≡_}
 use mathlib.Core.Bool.{Bool, true, false}

@@ -1,11 +1,11 @@
 // The branches, on the values of two registers.
 use opcode::Opcode;
 ghost use mathlib.Core.Path.{_≡_};
-ghost use Rattle.instruction.specs.Operands.{branchOf};
+ghost use Rattle.instruction.specs.Kinds.{branchKindOf};
 ghost use Rattle.effect.specs.Operations.{taken};
 
 pub fn taken(op: Opcode, s: u64, t: u64) -> bool
-    ensures { λ r. ⌜ r ≡ taken (branchOf op) s t ⌝ }
+    ensures { λ r. ⌜ r ≡ taken (branchKindOf op) s t ⌝ }
 {
     match op {
         Opcode::Bne => s != t,

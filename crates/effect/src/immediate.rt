@@ -99,12 +99,12 @@ pub fn decide(op: Opcode, o: Source, m: &[u8]) -> Turn
         Opcode::Ori => writes(
             o,
             value::forty::or(o.s, o.imm),
-            bound::after_sub(o.y, bound::from_constant(o.imm)),
+            bound::after_larger(o.y, bound::from_constant(o.imm)),
         ),
         Opcode::Xori => writes(
             o,
             value::forty::xor(o.s, o.imm),
-            bound::after_sub(o.y, bound::from_constant(o.imm)),
+            bound::after_larger(o.y, bound::from_constant(o.imm)),
         ),
         Opcode::Lb => loaded_8(o, memory::load(m, address(o), Size::Byte)),
         Opcode::Lbu => loaded(o, memory::load(m, address(o), Size::Byte), 8),

@@ -1,13 +1,15 @@
 // The instructions on two registers.
+use memory::bytes::bit;
 use opcode::Opcode;
 use refusal::Refusal;
 ghost use mathlib.Core.Path.{_≡_};
 ghost use mathlib.Core.Bool.{cond};
 ghost use lib.Dec.{eqb};
 ghost use Rattle.refusal.specs.Stops.{refusalOf};
-ghost use Rattle.bound.specs.Bits.{afterDiv, afterCmp, afterMove};
+ghost use Rattle.memory.specs.Bytes.{bit};
+ghost use Rattle.bound.specs.Bits.{afterDiv, afterCmp, afterLarger};
 ghost use Rattle.opcode.specs.Opcodes.{formOf};
-ghost use Rattle.effect.specs.Operations.{plus64, bit};
+ghost use Rattle.effect.specs.Operations.{plus64};
 ghost use Rattle.effect.specs.Outcomes.{On};
 ghost use Rattle.effect.specs.Outcomes as U;
 ghost use Rattle.effect.specs.Effects.{writes, writesChecked, goesTo};
@@ -47,16 +49,10 @@ fn checks(value: u64, bound: u8) -> Deed
     Deed::Writes { bound, value }
 }
 
-fn one_if(t: bool) -> u64
-    ensures { λ r. ⌜ r ≡ bit t ⌝ }
-{
-    if t { 1 } else { 0 }
-}
-
 fn sets(t: bool) -> Deed
     ensures { λ r. ⌜ r ≡ D.Writes afterCmp (bit t) ⌝ }
 {
-    writes(one_if(t), bound::after_cmp())
+    writes(bit(t) as u64, bound::after_cmp())
 }
 
 fn divides(o: Operands, value: u64) -> Deed
@@ -69,10 +65,10 @@ fn divides(o: Operands, value: u64) -> Deed
 }
 
 fn moves(o: Operands, happens: bool) -> Deed
-    ensures { λ r. ⌜ Comes r (λ rd pc. cond happens (writes rd (o .s) (afterMove (o .y) (o .x)) (plus64 pc 4)) (goesTo (plus64 pc 4) On)) ⌝ }
+    ensures { λ r. ⌜ Comes r (λ rd pc. cond happens (writes rd (o .s) (afterLarger (o .y) (o .x)) (plus64 pc 4)) (goesTo (plus64 pc 4) On)) ⌝ }
 {
     if happens {
-        return writes(o.s, bound::after_move(o.y, o.x));
+        return writes(o.s, bound::after_larger(o.y, o.x));
     }
     Deed::Passes
 }
@@ -82,7 +78,7 @@ pub fn decide(op: Opcode, o: Operands) -> Deed
 {
     match op {
         Opcode::Add => checks(value::forty::add(o.s, o.t), bound::after_add(o.y, o.z)),
-        Opcode::Sub => writes(value::forty::sub(o.s, o.t), bound::after_sub(o.y, o.z)),
+        Opcode::Sub => writes(value::forty::sub(o.s, o.t), bound::after_larger(o.y, o.z)),
         Opcode::Mul => checks(value::forty::mul(o.s, o.t), bound::after_mul(o.y, o.z)),
         Opcode::Mulh => writes(value::product::mulh(o.s, o.t), bound::after_mul(o.y, o.z)),
         Opcode::Div => divides(o, value::division::div(o.s, o.t)),
@@ -90,8 +86,8 @@ pub fn decide(op: Opcode, o: Operands) -> Deed
         Opcode::Rem => divides(o, value::division::rem(o.s, o.t)),
         Opcode::Remu => divides(o, value::division::remu(o.s, o.t)),
         Opcode::And => writes(value::forty::and(o.s, o.t), bound::after_and(o.y, o.z)),
-        Opcode::Or => writes(value::forty::or(o.s, o.t), bound::after_sub(o.y, o.z)),
-        Opcode::Xor => writes(value::forty::xor(o.s, o.t), bound::after_sub(o.y, o.z)),
+        Opcode::Or => writes(value::forty::or(o.s, o.t), bound::after_larger(o.y, o.z)),
+        Opcode::Xor => writes(value::forty::xor(o.s, o.t), bound::after_larger(o.y, o.z)),
         Opcode::Sll => writes(
             value::forty::shl(o.s, o.t % 64),
             bound::after_shl(o.y, o.t % 64),

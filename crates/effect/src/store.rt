@@ -2,11 +2,11 @@
 use memory::Size;
 use opcode::Opcode;
 ghost use mathlib.Core.Path.{_≡_};
-ghost use Rattle.instruction.specs.Operands.{storeOf};
+ghost use Rattle.instruction.specs.Kinds.{storeKindOf};
 ghost use Rattle.effect.specs.Operations.{storeSize};
 
 pub fn store_size(op: Opcode) -> Size
-    ensures { λ r. ⌜ r ≡ storeSize (storeOf op) ⌝ }
+    ensures { λ r. ⌜ r ≡ storeSize (storeKindOf op) ⌝ }
 {
     match op {
         Opcode::Sh => Size::Half,

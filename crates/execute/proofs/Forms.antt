@@ -19,7 +19,8 @@ use Rattle.opcode.specs.declared.Form.the-variants as F
 use Rattle.opcode.proofs.Arms.{everywhere}
 use Rattle.opcode.proofs.Variants.{place, all-at, form-place}
 use Rattle.forms.specs.Forms.{usedBits, immediateOf}
-use Rattle.instruction.specs.Operands.{built, instructionOf, storeOf, branchOf}
+use Rattle.instruction.specs.Operands.{built, instructionOf}
+use Rattle.instruction.specs.Kinds.{storeKindOf, branchKindOf}
 use Rattle.instruction.specs.declared.Instruction.{Instruction}
 use Rattle.instruction.specs.declared.Instruction.the-variants.{Store, Branch, Jal, Ecall, Ebreak}
 use Rattle.instruction.specs.declared.Parts.{Parts}
@@ -81,17 +82,17 @@ of-form f op e = eq-eqb _ _ (ap form-place e)
 
 module _ (N : Notes) (op : Opcode) (a b c imm pc : ℕ) (R : Registers) (m : List ℕ) where
   pub branched : formOf op ≡ F.B
-      → goesTo (plus64 pc (cond (taken (branchOf op) (valueOf (holds R a)) (valueOf (holds R b))) imm 4)) G.On
+      → goesTo (plus64 pc (cond (taken (branchKindOf op) (valueOf (holds R a)) (valueOf (holds R b))) imm 4)) G.On
       ≡ effect N (built op a b c imm) (seen pc R) m
   unfolding effect seen all
-  branched e = rw (known (of F.B) (λ (op : Opcode). Branch (branchOf op) a b imm) op a b c imm refl refl (of-form F.B op e))
+  branched e = rw (known (of F.B) (λ (op : Opcode). Branch (branchKindOf op) a b imm) op a b c imm refl refl (of-form F.B op e))
 
   pub stored : formOf op ≡ F.S
-      → onStorable (storesAt (storeSize (storeOf op)) (plus64 (valueOf (holds R a)) imm) (valueOf (holds R b)) (plus64 pc 4))
-      (M.storeOf (storeSize (storeOf op)) (length m) (plus64 (valueOf (holds R a)) imm))
+      → onStorable (storesAt (storeSize (storeKindOf op)) (plus64 (valueOf (holds R a)) imm) (valueOf (holds R b)) (plus64 pc 4))
+      (M.storeOf (storeSize (storeKindOf op)) (length m) (plus64 (valueOf (holds R a)) imm))
       ≡ effect N (built op a b c imm) (seen pc R) m
   unfolding effect seen storing all
-  stored e = rw (known (of F.S) (λ (op : Opcode). Store (storeOf op) a b imm) op a b c imm refl refl (of-form F.S op e))
+  stored e = rw (known (of F.S) (λ (op : Opcode). Store (storeKindOf op) a b imm) op a b c imm refl refl (of-form F.S op e))
 
   pub jumped : formOf op ≡ F.J → writes a (plus64 pc 4) (N .link (plus64 pc 4)) (plus64 pc imm) ≡ effect N (built op a b c imm) (seen pc R) m
   unfolding effect seen all

@@ -1,4 +1,4 @@
--- What the functions of the forms promise. But for `obeyed`, these definitions serve private contracts alone.
+-- Inner: what the functions of the forms promise.
 use Prim.Native.Nat.{ℕ}
 use mathlib.Core.Path.{_≡_}
 use mathlib.Core.List.{List}

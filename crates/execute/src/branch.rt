@@ -13,7 +13,8 @@ ghost use mathlib.Core.Path.{_≡_};
 ghost use mathlib.Core.Bool.{cond};
 ghost use Rattle.opcode.specs.Opcodes.{formOf};
 ghost use Rattle.opcode.specs.declared.Form.the-variants as F;
-ghost use Rattle.instruction.specs.Operands.{instructionOf, branchOf};
+ghost use Rattle.instruction.specs.Operands.{instructionOf};
+ghost use Rattle.instruction.specs.Kinds.{branchKindOf};
 ghost use Rattle.words.specs.Words.{apartOf, decodedOf};
 ghost use Rattle.state.specs.Held.{valueOf};
 ghost use Rattle.state.specs.Registers.{registers, heldAt};
@@ -28,7 +29,7 @@ fn either(t: bool, x: u64, y: u64) -> u64
 
 // Where the run goes on.
 fn target<'a>(pc: u64, p: Parts, regs: &'a [u64; 16], accumulated: &'a [bool; 16]) -> u64
-    ensures { λ r. ⌜ r ≡ plus64 pc (cond (taken (branchOf (p .op)) (valueOf (heldAt (now (regs .entry)) (now (accumulated .entry)) (p .a))) (valueOf (heldAt (now (regs .entry)) (now (accumulated .entry)) (p .b)))) (p .imm) 4) ⌝ }
+    ensures { λ r. ⌜ r ≡ plus64 pc (cond (taken (branchKindOf (p .op)) (valueOf (heldAt (now (regs .entry)) (now (accumulated .entry)) (p .a))) (valueOf (heldAt (now (regs .entry)) (now (accumulated .entry)) (p .b)))) (p .imm) 4) ⌝ }
 {
     let op = p.op;
     let s = registers::value_at(regs, accumulated, p.a);

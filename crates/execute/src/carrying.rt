@@ -3,6 +3,7 @@ use crate::Advance;
 use crate::Mode;
 use crate::Start;
 use crate::Went;
+use encoding::fields;
 use instruction::Parts;
 use opcode::Opcode;
 use pending::Checks;
@@ -20,7 +21,7 @@ ghost use Rattle.execute.specs.declared.Went.the-variants as W;
 fn register(x: u32) -> u8
     ensures { λ r. ⌜ r ≡ x % 16 ⌝ }
 {
-    (x % 16) as u8
+    (x % (fields::REGISTER_MASK + 1)) as u8
 }
 
 pub(crate) fn parts(op: Opcode, word: u32, imm: u64) -> Parts
@@ -28,9 +29,9 @@ pub(crate) fn parts(op: Opcode, word: u32, imm: u64) -> Parts
 {
     Parts {
         op,
-        a: register(word >> 7),
-        b: register(word >> 11),
-        c: register(word >> 15),
+        a: register(word >> fields::RD_SHIFT),
+        b: register(word >> fields::RS1_SHIFT),
+        c: register(word >> fields::RS2_SHIFT),
         imm,
     }
 }

@@ -17,7 +17,7 @@ ghost use Rattle.memory.specs.Memory.{storeOf, memoryAfter};
 ghost use Rattle.opcode.specs.Opcodes.{formOf};
 ghost use Rattle.opcode.specs.declared.Form.the-variants as F;
 ghost use Rattle.instruction.specs.Operands.{instructionOf};
-ghost use Rattle.instruction.specs.Operands as I;
+ghost use Rattle.instruction.specs.Kinds.{storeKindOf};
 ghost use Rattle.words.specs.Words.{apartOf, decodedOf};
 ghost use Rattle.state.specs.Held.{valueOf};
 ghost use Rattle.state.specs.Registers.{registers, heldAt};
@@ -27,7 +27,7 @@ ghost use Rattle.execute.specs.Starts.{obeyed, doing};
 
 // The bytes are stored, or the store is refused.
 fn stored<'a>(p: Parts, regs: &'a [u64; 16], accumulated: &'a [bool; 16], m: &mut [u8]) -> Stored
-    ensures { λ r. ⌜ (r ≡ storeOf (storeSize (I.storeOf (p .op))) (length (now (m .entry))) (plus64 (valueOf (heldAt (now (regs .entry)) (now (accumulated .entry)) (p .a))) (p .imm))) × (now (m .exit) ≡ memoryAfter (storeSize (I.storeOf (p .op))) (now (m .entry)) (plus64 (valueOf (heldAt (now (regs .entry)) (now (accumulated .entry)) (p .a))) (p .imm)) (valueOf (heldAt (now (regs .entry)) (now (accumulated .entry)) (p .b)))) ⌝ }
+    ensures { λ r. ⌜ (r ≡ storeOf (storeSize (storeKindOf (p .op))) (length (now (m .entry))) (plus64 (valueOf (heldAt (now (regs .entry)) (now (accumulated .entry)) (p .a))) (p .imm))) × (now (m .exit) ≡ memoryAfter (storeSize (storeKindOf (p .op))) (now (m .entry)) (plus64 (valueOf (heldAt (now (regs .entry)) (now (accumulated .entry)) (p .a))) (p .imm)) (valueOf (heldAt (now (regs .entry)) (now (accumulated .entry)) (p .b)))) ⌝ }
 {
     let op = p.op;
     let s = registers::value_at(regs, accumulated, p.a);

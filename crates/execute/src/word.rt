@@ -47,7 +47,7 @@ fn by_form(
 fn opcode_at(word: u32) -> Found
     ensures { λ r. ⌜ r ≡ opcodeIn opcodeNumber (field 0 7 word) ⌝ }
 {
-    opcode::opcode_of((word % 128) as u8)
+    opcode::opcode_of(encoding::extract_opcode(word) as u8)
 }
 
 pub fn obey(

@@ -1,4 +1,4 @@
--- Decoder and encoder, over numbers alone.
+-- Inner: decoder and encoder over numbers alone, for the comparison.
 use Prim.Native.Nat.{ℕ, _+_, _-_, _*_, _^_}
 use Rattle.refusal.specs.Stops.{numberOf}
 use Rattle.opcode.specs.Opcodes.{opcodeNumber}

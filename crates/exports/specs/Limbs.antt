@@ -1,10 +1,11 @@
--- normalize.rs over the bytes of a state, with three answers of three numbers each.
+-- Inner: normalize.rs over the bytes of a state, with three answers of three numbers each, for the comparison.
 use Prim.Native.Nat.{ℕ}
-use mathlib.Core.Bool.{Bool, true, false, cond}
+use mathlib.Core.Bool.{cond}
 use mathlib.Core.List.{List}
 use lib.ListN.{getD}
 use lib.Dec.{eqb}
 use Rattle.refusal.specs.Stops.{numberOf, refusalOf}
+use Rattle.memory.specs.Bytes.{bit}
 use Rattle.normalize.specs.Normalizing.{zeros, hasCarries, totalCarry, normalizeRegister, normalizeAndWrite, normalizeIfNearOverflow}
 use Rattle.state.specs.declared.State.{State}
 use Rattle.normalize.specs.declared.NormalizationResult.{NormalizationResult}
@@ -35,17 +36,13 @@ normalizingCode Done = 0
 normalizingCode Unneeded = 64
 normalizingCode (Refused r) = numberOf r
 
-abbrev pub bitOf : Bool → ℕ
-bitOf false = 0
-bitOf true = 1
-
 -- the code and the limbs before
 abbrev pub beforeTriple : Normalizing → NormalizationResult → Triple
 beforeTriple n r = triple (normalizingCode n) (getD (r .accumulated) 0 0) (getD (r .accumulated) 1 0)
 
 -- the limbs after, and whether there are carries
 abbrev pub afterTriple : NormalizationResult → Triple
-afterTriple r = triple (getD (r .normalized) 0 0) (getD (r .normalized) 1 0) (bitOf (hasCarries r))
+afterTriple r = triple (getD (r .normalized) 0 0) (getD (r .normalized) 1 0) (bit (hasCarries r))
 
 -- the carries and their total
 abbrev pub carryTriple : NormalizationResult → Triple

@@ -1,4 +1,4 @@
--- Pending checks, with their answers in bytes.
+-- Inner: pending checks with their answers in bytes, for the comparison.
 use Prim.Native.Nat.{ℕ}
 use mathlib.Core.List.{List}
 use Rattle.pending.specs.declared.Appended.{Appended}

@@ -1,4 +1,4 @@
--- One given instruction, one step and a run with lists, over the bytes of a state.
+-- Inner: one given instruction, one step and a run with lists over the bytes of a state, for the comparison.
 use Prim.Native.Nat.{ℕ}
 use mathlib.Core.Bool.{Bool, cond, _&&_}
 use mathlib.Core.List.{List, [], _∷_}

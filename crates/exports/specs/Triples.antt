@@ -1,4 +1,4 @@
--- Three numbers of eight bytes each, in a lent slice.
+-- Inner: three numbers of eight bytes each in a lent slice, for the comparison.
 use Prim.Native.Nat.{ℕ}
 use mathlib.Core.List.{List, _++_}
 use Rattle.refusal.specs.Stops.{numberOf, particularOf}

@@ -4,6 +4,7 @@ use crate::triple::write_triple;
 use layout::laid::well_laid;
 use layout::reading::read_state;
 use layout::writing::write_state;
+use memory::bytes::bit;
 use normalize::NormalizationResult;
 use normalize::Normalized;
 use normalize::Normalizing;
@@ -13,7 +14,7 @@ use state::State;
 ghost use mathlib.Core.Path.{_≡_};
 ghost use Rattle.normalize.specs.Normalizing.{wouldOverflow};
 ghost use Rattle.exports.specs.Triples.{tripled};
-ghost use Rattle.exports.specs.Limbs.{normalizedBy, limbCall, normalizingCode, bitOf, beforeTriple, afterTriple, carryTriple, normalizing};
+ghost use Rattle.exports.specs.Limbs.{normalizedBy, limbCall, normalizingCode, beforeTriple, afterTriple, carryTriple, normalizing};
 
 fn code_of(n: Normalizing) -> u64
     ensures { λ r. ⌜ r ≡ normalizingCode n ⌝ }
@@ -23,12 +24,6 @@ fn code_of(n: Normalizing) -> u64
         Normalizing::Done => 0,
         Normalizing::Refused(r) => number_of(r),
     }
-}
-
-fn bit_of(t: bool) -> u64
-    ensures { λ r. ⌜ r ≡ bitOf t ⌝ }
-{
-    if t { 1 } else { 0 }
 }
 
 fn before_of(n: Normalizing, r: NormalizationResult) -> Triple
@@ -49,7 +44,7 @@ fn after_of(r: NormalizationResult) -> Triple
     Triple {
         first: limbs[0] as u64,
         second: limbs[1] as u64,
-        third: bit_of(normalize::has_carries(r)),
+        third: bit(normalize::has_carries(r)) as u64,
     }
 }
 

@@ -1,5 +1,6 @@
 // How an instruction of each opcode lies in its word (document 01, "Words"), and what a word of each form has beside its opcode and
 // registers.
+use encoding::fields;
 use opcode::Form;
 use opcode::Opcode;
 ghost use mathlib.Core.Path.{_≡_};
@@ -7,6 +8,9 @@ ghost use Prim.Native.Nat.{_/_, _^_};
 ghost use Rattle.encoding.specs.Fields.{fitsIn};
 ghost use Rattle.opcode.specs.Opcodes.{formOf};
 ghost use Rattle.forms.specs.Forms.{usedBits, immediateOf, immFits};
+
+// A shift amount has six bits of the immediate's.
+const SHIFT_USED: u32 = fields::IMM_SHIFT + 6;
 
 pub fn form_of(op: Opcode) -> Form
     ensures { λ r. ⌜ r ≡ formOf op ⌝ }
@@ -38,9 +42,9 @@ pub fn unused(f: Form, word: u32) -> u32
     ensures { λ r. ⌜ r ≡ word / 2 ^ usedBits f ⌝ }
 {
     match f {
-        Form::R => word >> 19,
-        Form::Shift => word >> 21,
-        Form::Alone => word >> 7,
+        Form::R => word >> fields::FUNCT_SHIFT,
+        Form::Shift => word >> SHIFT_USED,
+        Form::Alone => word >> fields::RD_SHIFT,
         Form::I | Form::S | Form::B | Form::J => 0,
     }
 }
@@ -56,9 +60,9 @@ pub fn immediate(f: Form, word: u32) -> u64
     ensures { λ r. ⌜ r ≡ immediateOf f word ⌝ }
 {
     match f {
-        Form::I | Form::S | Form::B => value::extension::extend_17(word >> 15),
-        Form::Shift => wide(encoding::extract_imm(word)),
-        Form::J => value::extension::extend_21(word >> 11),
+        Form::I | Form::S | Form::B => value::extension::extend_17(word >> fields::IMM_SHIFT),
+        Form::Shift => wide(fields::extract_imm(word)),
+        Form::J => value::extension::extend_21(word >> fields::OFFSET_SHIFT),
         Form::R | Form::Alone => 0,
     }
 }

@@ -11,7 +11,7 @@ use Rattle.memory.specs.Bytes.{numberAt}
 use Rattle.state.specs.Formed.{allBelow, registersOf}
 use Rattle.execute.specs.Execute.{admits}
 use Rattle.refusal.specs.declared.Stop.the-variants as S
-use Rattle.pending.specs.Pending.{roomAt}
+use Rattle.pending.specs.Pending.{roomAt, noLists}
 use Rattle.pending.specs.declared.Room.the-variants.{Unlent}
 use Rattle.execute.specs.World.{World, worldOf}
 use Rattle.execute.specs.Rules.{rulesOf}
@@ -23,17 +23,17 @@ use Rattle.layout.specs.Reading.{readIn}
 use Rattle.layout.specs.declared.reading.Reading.{Reading}
 use Rattle.layout.specs.Layout.{STATE_BYTES, stateBytes, stateIn, recordLaid, wellLaid, written}
 use Rattle.layout.specs.Answer.{ANSWER_BYTES, answerBytes}
-use Rattle.host.specs.Call.{modeOf, none, stateOf, called, callTaken, ranOn, callOf}
+use Rattle.host.specs.Call.{modeOf, stateOf, called, callTaken, ranOn, callOf}
 use Rattle.host.specs.Unlisted.{unlistedRun}
 
 -- a leg of a state that is not halted
 pub one-leg : (c : Choices) (fuel : ℕ) (w : World) (a : Leg) → w .halted ≡ false → a ≡ legIn fuel (c .mode) Unlent (rulesOf c) w
-    → answer (stopOf (a .went)) (a .steps) (a .world) none ≡ unlistedRun c fuel w
+    → answer (stopOf (a .went)) (a .steps) (a .world) noLists ≡ unlistedRun c fuel w
 unfolding roomAt
 one-leg c fuel w a h e =
-    ap (λ (a : Leg). answer (stopOf (a .went)) (a .steps) (a .world) none) e
-    ∙ unlent-leg fuel (c .mode) (rulesOf c) w none refl
-    ∙ ap (λ (t : Bool). cond t (answer S.Ebreak 0 w none) (loop fuel (c .mode) (rulesOf c) w none)) (sym h)
+    ap (λ (a : Leg). answer (stopOf (a .went)) (a .steps) (a .world) noLists) e
+    ∙ unlent-leg fuel (c .mode) (rulesOf c) w noLists refl
+    ∙ ap (λ (t : Bool). cond t (answer S.Ebreak 0 w noLists) (loop fuel (c .mode) (rulesOf c) w noLists)) (sym h)
 
 -- of four tests that hold together
 first-of-four : (a b c d : Bool) → (a && b && c && d) ≡ true → a ≡ true

@@ -1,7 +1,7 @@
 -- Document 01 on the host's call: "state, memory, a 24-byte answer, fuel, and a mode number, 0 plain or 1 deferred".
 use Prim.Native.Nat.{ℕ}
 use mathlib.Core.Bool.{Bool, cond, _&&_}
-use mathlib.Core.List.{List, []}
+use mathlib.Core.List.{List}
 use lib.ListN.{length}
 use lib.Dec.{leb, eqb}
 use Rattle.refusal.specs.Stops.{codeOf, particularAt}
@@ -11,7 +11,7 @@ use Rattle.execute.specs.World.{World, worldOf}
 use Rattle.execute.specs.Execute.{admits}
 use Rattle.execute.specs.declared.Mode.{Mode}
 use Rattle.execute.specs.declared.Mode.the-variants.{Plain, Deferred}
-use Rattle.pending.specs.Pending.{Lists, lists}
+use Rattle.pending.specs.Pending.{noLists}
 use Rattle.execute.specs.Rules.{documentRules}
 use Rattle.run.specs.Run.{Answer, run}
 use Rattle.layout.specs.Layout.{stateBytes, stateIn, wellLaid, written}
@@ -20,12 +20,8 @@ use Rattle.layout.specs.Answer.{ANSWER_BYTES, answerBytes}
 unfoldable pub modeOf : ℕ → Mode
 modeOf n = cond (eqb n 0) Plain Deferred
 
--- no list is lent
-abbrev pub none : Lists
-none = lists 0 [] [] []
-
 abbrev pub ranOn : ℕ → ℕ → State → List ℕ → Answer
-ranOn mode fuel s m = run (modeOf mode) documentRules fuel (worldOf s m) none
+ranOn mode fuel s m = run (modeOf mode) documentRules fuel (worldOf s m) noLists
 
 -- a state by value again
 abbrev pub stateOf : World → State

@@ -16,6 +16,7 @@ use step::leg;
 ghost use mathlib.Core.Path.{_≡_};
 ghost use mathlib.Core.Bool.{_&&_};
 ghost use lib.Dec.{eqb, leb};
+ghost use Rattle.pending.specs.Pending.{noLists};
 ghost use Rattle.state.specs.Formed.{registersOf};
 ghost use Rattle.execute.specs.World.{worldOf};
 ghost use Rattle.execute.specs.Execute.{admits};
@@ -23,7 +24,7 @@ ghost use Rattle.refusal.specs.Stops.{codeOf, particularAt};
 ghost use Rattle.layout.specs.Layout.{STATE_BYTES, stateBytes, written};
 ghost use Rattle.layout.specs.Answer.{ANSWER_BYTES, answerBytes};
 ghost use Rattle.run.specs.Run.{answer};
-ghost use Rattle.host.specs.Call.{modeOf, none, called, callOf};
+ghost use Rattle.host.specs.Call.{modeOf, called, callOf};
 ghost use Rattle.host.specs.Unlisted.{unlistedRun};
 
 // "0 plain or 1 deferred": whoever calls it has refused any other.
@@ -54,7 +55,7 @@ fn call_taken(r: Reading, answer: usize, mode: u64) -> bool
 
 // The run of a state that its mode takes, with no list lent: one leg.
 fn run_taken(choices: Choices, s: State, fuel: u64, m: &mut [u8]) -> Ran
-    ensures { λ r. ⌜ answer (r .stop) (r .steps) (worldOf (r .state) (now (m .exit))) none ≡ unlistedRun choices fuel (worldOf s (now (m .entry))) ⌝ }
+    ensures { λ r. ⌜ answer (r .stop) (r .steps) (worldOf (r .state) (now (m .exit))) noLists ≡ unlistedRun choices fuel (worldOf s (now (m .entry))) ⌝ }
 {
     if s.halted {
         return Ran {

@@ -1,9 +1,5 @@
 -- An instruction taken apart into its opcode and operands, and joined again.
 use Prim.Native.Nat.{ℕ}
-use mathlib.Core.Bool.{cond}
-use mathlib.Core.List.{List, [], _∷_}
-use lib.Dec.{eqb}
-use Rattle.opcode.specs.Opcodes.{opcodeNumber}
 use Rattle.opcode.specs.declared.Opcode.{Opcode}
 use Rattle.instruction.specs.declared.Instruction.{Instruction}
 use Rattle.instruction.specs.declared.Parts.{Parts}
@@ -135,32 +131,6 @@ ofBranch Br.Blt = O.Blt
 ofBranch Br.Bge = O.Bge
 ofBranch Br.Bltu = O.Bltu
 ofBranch Br.Bgeu = O.Bgeu
-
--- of a kind of operations, the one that has an opcode; the first of them, if none has it
-abbrev pub among : {X : Type 0} → (X → Opcode) → X → List X → Opcode → X
-among of x [] op = x
-among of x (y ∷ ys) op = cond (eqb (opcodeNumber op) (opcodeNumber (of y))) y (among of x ys op)
-
-abbrev pub divisionOf : Opcode → Division
-divisionOf op = among ofDivision Dv.Div (Dv.Divu ∷ Dv.Rem ∷ Dv.Remu ∷ []) op
-
-abbrev pub operationOf : Opcode → Operation
-operationOf op = among ofOperation Op.Mulh (Op.And ∷ Op.Or ∷ Op.Xor ∷ Op.Sll ∷ Op.Srl ∷ Op.Sra ∷ Op.Slt ∷ Op.Sltu ∷ Op.Sge ∷ Op.Sgeu ∷ Op.Seq ∷ Op.Sne ∷ []) op
-
-abbrev pub immOperationOf : Opcode → ImmOperation
-immOperationOf op = among ofImmOperation Im.Andi (Im.Ori ∷ Im.Xori ∷ Im.Slli ∷ Im.Srli ∷ Im.Srai ∷ []) op
-
-abbrev pub moveOf : Opcode → MoveKind
-moveOf op = among ofMove Mv.Cmov (Mv.Cmovz ∷ Mv.Cmovnz ∷ []) op
-
-abbrev pub loadOf : Opcode → LoadKind
-loadOf op = among ofLoad Ld.Lb (Ld.Lbu ∷ Ld.Lh ∷ Ld.Lhu ∷ Ld.Lw ∷ Ld.Ld ∷ []) op
-
-abbrev pub storeOf : Opcode → StoreKind
-storeOf op = among ofStore St.Sb (St.Sh ∷ St.Sw ∷ St.Sd ∷ []) op
-
-abbrev pub branchOf : Opcode → BranchKind
-branchOf op = among ofBranch Br.Beq (Br.Bne ∷ Br.Blt ∷ Br.Bge ∷ Br.Bltu ∷ Br.Bgeu ∷ []) op
 
 -- 0 stands for the operands that an instruction lacks
 abbrev pub three : Opcode → ℕ → ℕ → ℕ → Parts

@@ -10,7 +10,8 @@ use super::Parts;
 use super::StoreKind;
 use opcode::Opcode;
 ghost use mathlib.Core.Path.{_≡_};
-ghost use Rattle.instruction.specs.Operands.{instructionOf, partsOf, three, two, divisionOf, operationOf, immOperationOf, moveOf, loadOf, storeOf, branchOf, ofDivision, ofOperation, ofImmOperation, ofMove, ofLoad, ofStore, ofBranch};
+ghost use Rattle.instruction.specs.Operands.{instructionOf, partsOf, three, two, ofDivision, ofOperation, ofImmOperation, ofMove, ofLoad, ofStore, ofBranch};
+ghost use Rattle.instruction.specs.Kinds.{divisionOf, operationOf, immOperationOf, moveKindOf, loadKindOf, storeKindOf, branchKindOf};
 
 fn division(op: Opcode) -> Division
     ensures { λ r. ⌜ r ≡ divisionOf op ⌝ }
@@ -90,7 +91,7 @@ fn operate_imm(op: ImmOperation, p: Parts) -> Instruction
 }
 
 fn move_kind(op: Opcode) -> MoveKind
-    ensures { λ r. ⌜ r ≡ moveOf op ⌝ }
+    ensures { λ r. ⌜ r ≡ moveKindOf op ⌝ }
 {
     match op {
         Opcode::Cmovz => MoveKind::Cmovz,
@@ -111,7 +112,7 @@ fn move_if(op: MoveKind, p: Parts) -> Instruction
 }
 
 fn load_kind(op: Opcode) -> LoadKind
-    ensures { λ r. ⌜ r ≡ loadOf op ⌝ }
+    ensures { λ r. ⌜ r ≡ loadKindOf op ⌝ }
 {
     match op {
         Opcode::Lbu => LoadKind::Lbu,
@@ -135,7 +136,7 @@ fn load(op: LoadKind, p: Parts) -> Instruction
 }
 
 fn store_kind(op: Opcode) -> StoreKind
-    ensures { λ r. ⌜ r ≡ storeOf op ⌝ }
+    ensures { λ r. ⌜ r ≡ storeKindOf op ⌝ }
 {
     match op {
         Opcode::Sh => StoreKind::Sh,
@@ -157,7 +158,7 @@ fn store(op: StoreKind, p: Parts) -> Instruction
 }
 
 fn branch_kind(op: Opcode) -> BranchKind
-    ensures { λ r. ⌜ r ≡ branchOf op ⌝ }
+    ensures { λ r. ⌜ r ≡ branchKindOf op ⌝ }
 {
     match op {
         Opcode::Bne => BranchKind::Bne,

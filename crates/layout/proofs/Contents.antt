@@ -8,7 +8,8 @@ use borrow.Author.Tests.{eqb-true, eqb-false, ltb-true}
 use Rattle.state.specs.Held.{Held, Whole, Limbs, lowOf, heldOf, kept, waits}
 use Rattle.state.specs.Formed.{limbsFit}
 use Rattle.state.proofs.Normal.{held-kept}
-use Rattle.layout.specs.Layout.{markOf, kindOf, firstOf, secondOf, heldBy, numbersFit}
+use Rattle.memory.specs.Bytes.{bit}
+use Rattle.layout.specs.Layout.{kindOf, firstOf, secondOf, heldBy, numbersFit}
 use Rattle.layout.proofs.Tests.{both}
 
 -- from the numbers
@@ -76,20 +77,17 @@ waits-held true v = refl
 waits-held false v = refl
 
 -- the mark
-pub mark-back : (n : ℕ) → n ≤ 1 → markOf (eqb n 1) ≡ n
-unfolding markOf
+pub mark-back : (n : ℕ) → n ≤ 1 → bit (eqb n 1) ≡ n
 mark-back n h = by (eqb n 1) refl
   where
-    by : (t : Bool) → eqb n 1 ≡ t → markOf t ≡ n
+    by : (t : Bool) → eqb n 1 ≡ t → bit t ≡ n
     by true e = sym (eqb-true n 1 e)
     by false e = omega (arith, eqb-false n 1 e)
 
-pub mark-is : (t : Bool) → eqb (markOf t) 1 ≡ t
-unfolding markOf
+pub mark-is : (t : Bool) → eqb (bit t) 1 ≡ t
 mark-is true = refl
 mark-is false = refl
 
-pub mark-small : (t : Bool) → markOf t ≤ 1
-unfolding markOf
+pub mark-small : (t : Bool) → bit t ≤ 1
 mark-small true = lit< tt
 mark-small false = omega arith

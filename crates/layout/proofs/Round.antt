@@ -10,13 +10,13 @@ use lib.Dec.{leb, eqb}
 use lib.ListN.{length, drop, getD, drop-of-length-le}
 use lib.Seq.{drop-drop, drop-append-add}
 use borrow.Author.Tests.{eqb-true, leb-true, le-leb}
-use Rattle.memory.specs.Bytes.{bytes, numberOfBytes, numberAt}
+use Rattle.memory.specs.Bytes.{bit, bytes, numberOfBytes, numberAt}
 use Rattle.state.specs.Held.{Held, heldOf, kept, waits}
 use Rattle.state.specs.Registers.{Registers, holds, noted}
 use Rattle.state.specs.Formed.{limbsFit, registerFits, zeroFits, allBelow, wellFormed, registersOf}
 use Rattle.state.specs.declared.State.{State}
 use Rattle.state.proofs.Normal.{kept-held}
-use Rattle.layout.specs.Layout.{HEADER_BYTES, RECORD_BYTES, STATE_BYTES, markOf, headerBytes, kindOf, firstOf, secondOf, recordBytes, records, stateBytes, recordAt, kindIn, boundIn, zerosIn, firstIn, secondIn, heldIn, stateIn, numbersFit, recordLaid, wellLaid, admissible}
+use Rattle.layout.specs.Layout.{HEADER_BYTES, RECORD_BYTES, STATE_BYTES, headerBytes, kindOf, firstOf, secondOf, recordBytes, records, stateBytes, recordAt, kindIn, boundIn, zerosIn, firstIn, secondIn, heldIn, stateIn, numbersFit, recordLaid, wellLaid, admissible}
 use Rattle.layout.proofs.Rows.{table-at, table-of}
 use Rattle.layout.proofs.Numbers.{Small, number-bytes, read-next}
 use Rattle.layout.proofs.Stored.{length-header, length-record, length-state}
@@ -182,9 +182,9 @@ module _ (s : State) (shape : Shaped s) (limbs : (i : ℕ) → i < 16 → limbsF
   unfolding stateBytes headerBytes bytes
   pc-read = number-bytes 8 (s .pc) (shape .pc-fits)
 
-  mark-read : numberAt 1 (stateBytes s) 8 ≡ markOf (s .halted)
+  mark-read : numberAt 1 (stateBytes s) 8 ≡ bit (s .halted)
   unfolding stateBytes headerBytes bytes
-  mark-read = number-bytes 1 (markOf (s .halted)) (omega (arith, mark-small (s .halted)))
+  mark-read = number-bytes 1 (bit (s .halted)) (omega (arith, mark-small (s .halted)))
 
   zeros-read : numberAt 7 (stateBytes s) 9 ≡ 0
   unfolding stateBytes headerBytes bytes numberOfBytes

@@ -6,12 +6,12 @@ use mathlib.Core.List.{List, _++_}
 use native.Mathlib.Omega.{arith}
 use lib.ListN.{length, getD, length-append}
 use lib.Seq.{sets}
-use Rattle.memory.specs.Bytes.{bytes}
+use Rattle.memory.specs.Bytes.{bit, bytes}
 use Rattle.state.specs.Held.{Held, heldOf}
 use Rattle.state.specs.Registers.{Registers}
 use Rattle.state.specs.Formed.{registersOf}
 use Rattle.state.specs.declared.State.{State}
-use Rattle.layout.specs.Layout.{HEADER_BYTES, RECORD_BYTES, STATE_BYTES, markOf, headerBytes, recordBytes, records, stateBytes, recordAt, written}
+use Rattle.layout.specs.Layout.{HEADER_BYTES, RECORD_BYTES, STATE_BYTES, headerBytes, recordBytes, records, stateBytes, recordAt, written}
 use Rattle.layout.specs.Answer.{ANSWER_BYTES, answerBytes}
 use Rattle.layout.proofs.Rows.{sets-next, written-all}
 
@@ -33,8 +33,8 @@ unfolding stateBytes
 length-state s = simp (length-append, length-header, length-records)
 
 -- the mark's byte and its zeros, as one number
-header-is : (pc : ℕ) (halted : Bool) → bytes 8 pc ++ bytes 8 (markOf halted) ≡ headerBytes pc halted
-unfolding headerBytes markOf bytes
+header-is : (pc : ℕ) (halted : Bool) → bytes 8 pc ++ bytes 8 (bit halted) ≡ headerBytes pc halted
+unfolding headerBytes bytes
 header-is pc true = refl
 header-is pc false = refl
 
@@ -48,7 +48,7 @@ head-is head kind bound is k b =
     rw (low, rest, none)
 
 pub state-stored : (s : State) (old : List ℕ) → length old ≡ STATE_BYTES
-    → sets (sets old 0 (bytes 8 (s .pc) ++ bytes 8 (markOf (s .halted)))) HEADER_BYTES (records 16 0 (registersOf s)) ≡ written STATE_BYTES (stateBytes s) old
+    → sets (sets old 0 (bytes 8 (s .pc) ++ bytes 8 (bit (s .halted)))) HEADER_BYTES (records 16 0 (registersOf s)) ≡ written STATE_BYTES (stateBytes s) old
 unfolding stateBytes
 state-stored s old h =
     rw header-is (sets-next old 0 HEADER_BYTES (headerBytes (s .pc) (s .halted)) (records 16 0 (registersOf s)) (rw length-header (omega arith)))

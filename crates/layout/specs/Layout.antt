@@ -4,7 +4,7 @@ use mathlib.Core.Bool.{Bool, true, false, cond, _&&_}
 use mathlib.Core.List.{List, [], _∷_, _++_}
 use lib.ListN.{length}
 use lib.Dec.{leb, eqb}
-use Rattle.memory.specs.Bytes.{bytes, numberAt}
+use Rattle.memory.specs.Bytes.{bit, bytes, numberAt}
 use Rattle.state.specs.Held.{Held, Whole, Limbs, kept, waits}
 use Rattle.state.specs.Registers.{Registers, holds, noted}
 use Rattle.state.specs.Formed.{limbsFit, allBelow, wellFormed, registersOf}
@@ -21,12 +21,8 @@ abbrev pub STATE_BYTES : ℕ
 STATE_BYTES = HEADER_BYTES + 16 * RECORD_BYTES
 
 -- "pc (8), halt mark 0 or 1, 7 zeros"
-unfoldable pub markOf : Bool → ℕ
-markOf false = 0
-markOf true = 1
-
 unfoldable pub headerBytes : ℕ → Bool → List ℕ
-headerBytes pc halted = bytes 8 pc ++ (bytes 1 (markOf halted) ++ bytes 7 0)
+headerBytes pc halted = bytes 8 pc ++ (bytes 1 (bit halted) ++ bytes 7 0)
 
 -- "kind 0 or 1": whole, or accumulated
 unfoldable pub kindOf : Held → ℕ

@@ -1,4 +1,4 @@
--- A register's record as the code has it: three numbers of eight bytes. No definition of document 01 rests on these.
+-- Inner: a register's record as the code has it, three numbers of eight bytes.
 use Prim.Native.Nat.{ℕ, _+_}
 use mathlib.Core.List.{List, _++_}
 use Rattle.memory.specs.Bytes.{bytes, numberAt}

@@ -1,4 +1,4 @@
--- A register's record and the whole state as the code reads them. No definition of document 01 rests on these.
+-- Inner: a register's record and the whole state as the code reads them.
 use Prim.Native.Nat.{ℕ, _+_, _/_, _%_, _^_}
 use mathlib.Core.Bool.{Bool, _&&_}
 use mathlib.Core.List.{List}

@@ -4,6 +4,7 @@ use crate::LIMB_LIMIT;
 use crate::RECORD_BYTES;
 use crate::STATE_BYTES;
 use crate::records::Record;
+use memory::bytes::bit;
 use memory::bytes::put_number;
 use state::State;
 ghost use mathlib.Core.Path.{_≡_};
@@ -14,14 +15,8 @@ ghost use lib.Seq.{sets};
 ghost use Rattle.memory.specs.Bytes.{bytes};
 ghost use Rattle.state.specs.Held.{heldOf};
 ghost use Rattle.state.specs.Registers.{registers};
-ghost use Rattle.layout.specs.Layout.{HEADER_BYTES, STATE_BYTES, markOf, recordBytes, records, stateBytes, written};
+ghost use Rattle.layout.specs.Layout.{HEADER_BYTES, STATE_BYTES, recordBytes, records, stateBytes, written};
 ghost use Rattle.layout.specs.Numbers.{numbersOf};
-
-fn mark_of(halted: bool) -> u64
-    ensures { λ r. ⌜ r ≡ markOf halted ⌝ }
-{
-    if halted { 1 } else { 0 }
-}
 
 fn record_of(waits: bool, v: u64, bound: u8) -> Record
     ensures { λ r. ⌜ numbersOf r ≡ recordBytes (heldOf waits v) bound ⌝ }
@@ -88,7 +83,7 @@ pub fn write_state(bytes: &mut [u8], s: State)
     if bytes.len() != STATE_BYTES {
         return;
     }
-    put_header(bytes, s.pc, mark_of(s.halted));
+    put_header(bytes, s.pc, bit(s.halted) as u64);
     let regs = s.regs;
     let accumulated = s.accumulated;
     let bounds = s.bounds;

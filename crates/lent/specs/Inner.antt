@@ -1,4 +1,4 @@
--- What the inner functions of the exported step promise. These definitions serve private contracts alone.
+-- Inner: what the private functions of the exported step promise.
 use Prim.Native.Nat.{ℕ}
 use mathlib.Core.Bool.{false, cond, _&&_}
 use lib.Dec.{leb}

@@ -14,7 +14,8 @@ use Rattle.execute.specs.declared.Went.the-variants as W
 use Rattle.pending.specs.Pending.{Lists}
 use Rattle.step.specs.Step.{Left, step}
 use Rattle.run.specs.Run.{stopOf}
-use Rattle.layout.specs.Layout.{markOf, table}
+use Rattle.memory.specs.Bytes.{bit}
+use Rattle.layout.specs.Layout.{table}
 use Rattle.host.specs.Call.{modeOf, stateOf}
 use Rattle.lent.specs.declared.exported.Lent.{Lent}
 use Rattle.lent.specs.declared.exported.StepAnswer.{StepAnswer}
@@ -41,8 +42,8 @@ unfoldable pub lentOf : State → Lent
 lentOf s =
     record {
       pc = s .pc;
-      halted = markOf (s .halted);
-      kinds = table 16 0 (λ i. markOf (getD (s .accumulated) i false));
+      halted = bit (s .halted);
+      kinds = table 16 0 (λ i. bit (getD (s .accumulated) i false));
       bounds = s .bounds;
       values = s .regs;
     }

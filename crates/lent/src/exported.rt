@@ -4,6 +4,7 @@ use execute::Choices;
 use execute::Mode;
 use execute::Went;
 use host::mode_of;
+use memory::bytes::bit;
 use run::legs::stop_of;
 use state::State;
 use step::OneStep;
@@ -11,7 +12,6 @@ ghost use mathlib.Core.Path.{_≡_};
 ghost use mathlib.Core.Bool.{_&&_};
 ghost use lib.Dec.{leb};
 ghost use Rattle.state.specs.Formed.{allBelow};
-ghost use Rattle.layout.specs.Layout.{markOf};
 ghost use Rattle.checks.specs.Records.{listed};
 ghost use Rattle.lent.specs.Lent.{markFits, laid, stateOfLent, lentOf, recordAfter, lentStep, stepLent};
 ghost use Rattle.lent.specs.Inner.{readied, concluded};
@@ -70,12 +70,6 @@ fn lent_taken(r: Lent, mode: u64) -> bool
     kinds_fit(&kinds)
 }
 
-fn kind_of(waits: bool) -> u8
-    ensures { λ r. ⌜ r ≡ markOf waits ⌝ }
-{
-    if waits { 1 } else { 0 }
-}
-
 fn state_of_lent(r: Lent) -> State
     ensures { λ s. ⌜ s ≡ stateOfLent r ⌝ }
 {
@@ -98,14 +92,14 @@ fn lent_of(s: State) -> Lent
     let mut kinds = [0u8; 16];
     let mut i: usize = 0;
     while i < 16 {
-        kinds[i] = kind_of(accumulated[i]);
+        kinds[i] = bit(accumulated[i]);
         i += 1;
     }
     let values = s.regs;
     let bounds = s.bounds;
     Lent {
         pc: s.pc,
-        halted: kind_of(s.halted),
+        halted: bit(s.halted),
         kinds,
         bounds,
         values,

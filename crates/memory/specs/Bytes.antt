@@ -1,8 +1,13 @@
 -- Numbers in bytes, little-endian, over the size.
 use Prim.Native.Nat.{ℕ, zero, suc, _+_, _*_, _/_, _%_}
+use mathlib.Core.Bool.{Bool, cond}
 use mathlib.Core.List.{List, [], _∷_}
 use lib.ListN.{take, drop}
 use lib.Seq.{sets}
+
+-- yes or no as a number
+abbrev pub bit : Bool → ℕ
+bit t = cond t 1 0
 
 -- the number that bytes are, the lowest first
 unfoldable pub numberOfBytes : List ℕ → ℕ

@@ -3,7 +3,14 @@ ghost use mathlib.Core.Path.{_≡_};
 ghost use mathlib.Core.Bool.{true};
 ghost use Prim.Native.Nat.{_+_, _-_, _≤_, _<_, _^_, min};
 ghost use lib.ListN.{length};
-ghost use Rattle.memory.specs.Bytes.{numberAt, putAt};
+ghost use Rattle.memory.specs.Bytes.{bit, numberAt, putAt};
+
+// Yes or no as a number: a comparison's result, a mark, a kind.
+pub fn bit(t: bool) -> u8
+    ensures { λ r. ⌜ r ≡ bit t ⌝ }
+{
+    if t { 1 } else { 0 }
+}
 
 // The number in n bytes: from the top down, so that each turn is the definition's.
 pub(crate) fn word_at(m: &[u8], at: usize, n: usize) -> u64

@@ -87,7 +87,7 @@ pub fn reach(len: usize, address: u64, size: Size) -> Access
     Access::Served
 }
 
-// The address that refusal 2 names.
+// The address that refusal 2 names. It does not depend on the length yet: that a request wants it to is why it is given here.
 fn beyond_at(len: usize, address: u64) -> u64
     ensures { λ r. ⌜ r ≡ beyondAt len address ⌝ }
 {

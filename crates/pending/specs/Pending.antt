@@ -23,6 +23,10 @@ pub record Lists : Type 0 where
 abbrev pub lists : ℕ → List ℕ → List ℕ → List ℕ → Lists
 lists n vs bs ps = record { count = n; values = vs; bounds = bs; pcs = ps }
 
+-- no list is lent
+abbrev pub noLists : Lists
+noLists = lists 0 [] [] []
+
 -- "Lists of unequal length, or a count beyond them, are malformed"
 abbrev pub listsFit : Lists → Bool
 listsFit l = eqb (length (l .bounds)) (length (l .values)) && eqb (length (l .pcs)) (length (l .values)) && leb (l .count) (length (l .values))

@@ -180,11 +180,8 @@ bound·from-constant κs a x y = one (λ r. r & x .1)
 pub bound·after-add : Determined bound.after_add.ended bound.after_add.Reads.Learnt
 bound·after-add κs a x y = one (λ r. r & x .1)
 
-pub bound·after-sub : Determined bound.after_sub.ended bound.after_sub.Reads.Learnt
-bound·after-sub κs a x y = one (λ r. r & x .1)
-
-pub bound·after-move : Determined bound.after_move.ended bound.after_move.Reads.Learnt
-bound·after-move κs a x y = one (λ r. r & x .1)
+pub bound·after-larger : Determined bound.after_larger.ended bound.after_larger.Reads.Learnt
+bound·after-larger κs a x y = one (λ r. r & x .1)
 
 pub bound·after-mul : Determined bound.after_mul.ended bound.after_mul.Reads.Learnt
 bound·after-mul κs a x y = one (λ r. r & x .1)

@@ -1,4 +1,4 @@
--- A run on its way, between two legs. No definition of document 01 rests on these.
+-- Inner: a run on its way, between two legs.
 use Prim.Native.Nat.{ℕ, _+_, _-_, _%_, _^_}
 use mathlib.Core.Bool.{Bool, cond, not, _&&_}
 use mathlib.Core.List.{List}

@@ -1,6 +1,6 @@
 // Notes of bits: `bound`.
 ghost use mathlib.Core.Path.{_≡_};
-ghost use Rattle.bound.specs.Bits.{bitsOf, afterAdd, afterSub, afterMul, afterDiv, afterAnd, afterShl, afterSrl, afterSra, afterCmp, afterMove, afterLoad, needsCheck};
+ghost use Rattle.bound.specs.Bits.{bitsOf, afterAdd, afterLarger, afterMul, afterDiv, afterAnd, afterShl, afterSrl, afterSra, afterCmp, afterLoad, needsCheck};
 
 #[no_mangle]
 pub extern "C" fn oracle_bound_from_constant(x: u64) -> u8
@@ -18,9 +18,9 @@ pub extern "C" fn oracle_bound_after_add(a: u8, b: u8) -> u8
 
 #[no_mangle]
 pub extern "C" fn oracle_bound_after_sub(a: u8, b: u8) -> u8
-    ensures { λ r. ⌜ r ≡ afterSub a b ⌝ }
+    ensures { λ r. ⌜ r ≡ afterLarger a b ⌝ }
 {
-    bound::after_sub(a, b)
+    bound::after_larger(a, b)
 }
 
 #[no_mangle]
@@ -39,9 +39,9 @@ pub extern "C" fn oracle_bound_after_and(a: u8, b: u8) -> u8
 
 #[no_mangle]
 pub extern "C" fn oracle_bound_after_move(source: u8, destination: u8) -> u8
-    ensures { λ r. ⌜ r ≡ afterMove source destination ⌝ }
+    ensures { λ r. ⌜ r ≡ afterLarger source destination ⌝ }
 {
-    bound::after_move(source, destination)
+    bound::after_larger(source, destination)
 }
 
 #[no_mangle]

@@ -1,5 +1,5 @@
--- A leg of a run: at most so many steps, up to and with the first that asks for checks where a list is lent. They are given back and
--- not listed, so that whoever calls it lists in its own form. No definition of document 01 rests on these, but on how a step counts.
+-- Inner: a leg of a run, at most so many steps, up to and with the first that asks for checks where a list is lent. They are given
+-- back and not listed, so that whoever calls it lists in its own form.
 use Prim.Native.Nat.{ℕ, zero, suc, _+_}
 use mathlib.Core.Bool.{Bool, true, false, cond, _&&_}
 use mathlib.Core.List.{List, [], _∷_}

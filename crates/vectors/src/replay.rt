@@ -15,10 +15,7 @@ use exports::machine::oracle_run;
 ghost use Rattle.io.specs.Counts.{Counts};
 
 pub struct Compared {
-    pub call: Call,
-    // the opcode that the first step completes, or 0
-    pub first: u64,
-    pub code: u64,
+    pub is_listed: bool,
     pub code_differs: bool,
     pub state_differs: bool,
     pub memory_differs: bool,
@@ -225,20 +222,6 @@ fn make(
     )
 }
 
-// The opcode at the pc of a state, 0 where no step is completed.
-fn first_of<'a>(state: &'a [u8], memory: &'a [u8], steps: u64) -> u64 {
-    if steps == 0 {
-        return 0;
-    }
-    let pc = memory::bytes::number_at(state, 0, 8);
-    if pc < memory.len() as u64 {
-        let at = pc as usize;
-        wide(memory[at]) % 128
-    } else {
-        0
-    }
-}
-
 pub fn replay(line: &[u64; NUMBERS]) -> Compared {
     let call = call_of(line);
     let places = places_of(line, call);
@@ -246,7 +229,6 @@ pub fn replay(line: &[u64; NUMBERS]) -> Compared {
     let mut memory = [0u8; MEMORY_BUFFER];
     let mut answer = [255u8; ANSWER_BUFFER];
     lay_before(line, places, &mut state, &mut memory);
-    let first = first_of(&state, &memory, number_at(line, onward(places.answer, 1)));
     let called = make(line, call, places, &mut state, &mut memory, &mut answer);
     let mut state_after = [0u8; STATE_BUFFER];
     let mut memory_after = [0u8; MEMORY_BUFFER];
@@ -260,9 +242,7 @@ pub fn replay(line: &[u64; NUMBERS]) -> Compared {
         &mut answer_after,
     );
     Compared {
-        call,
-        first,
-        code: called.code,
+        is_listed: call.is_listed,
         code_differs: called.code != number_at(line, places.answer),
         state_differs: !check::same(&state, &state_after),
         memory_differs: !check::same(&memory, &memory_after),

@@ -1,6 +1,7 @@
 // Words to instructions.
 use super::Decoded;
 use super::Taken;
+use encoding::fields;
 use forms::form_of;
 use forms::immediate;
 use forms::unused;
@@ -19,7 +20,7 @@ ghost use Rattle.words.specs.Words.{apartOf, takeIn, decodeIn};
 fn register(x: u32) -> u8
     ensures { λ r. ⌜ r ≡ x % 16 ⌝ }
 {
-    (x % 16) as u8
+    (x % (fields::REGISTER_MASK + 1)) as u8
 }
 
 // All four fields are read, whatever the form: no test is taken for those that the instruction lacks.
@@ -32,9 +33,9 @@ fn apart(op: Opcode, word: u32) -> Taken
     }
     Taken::Apart(Parts {
         op,
-        a: register(word >> 7),
-        b: register(word >> 11),
-        c: register(word >> 15),
+        a: register(word >> fields::RD_SHIFT),
+        b: register(word >> fields::RS1_SHIFT),
+        c: register(word >> fields::RS2_SHIFT),
         imm: immediate(f, word),
     })
 }
@@ -42,7 +43,7 @@ fn apart(op: Opcode, word: u32) -> Taken
 fn low(word: u32) -> u8
     ensures { λ r. ⌜ r ≡ field 0 7 word ⌝ }
 {
-    (word % 128) as u8
+    (word % (fields::OPCODE_MASK + 1)) as u8
 }
 
 // A word taken apart without building the instruction, for a loop that goes by opcode. It stays in registers when inlined, and

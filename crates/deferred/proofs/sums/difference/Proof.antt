@@ -18,7 +18,7 @@ sub-t6 c = let t = covers-limbs (c .before .before .before .before .before .befo
 
 returns-2 : tie.Need-returns-2
 unfolding kept waits
-returns-2 c = λ rd rs1 R. rw (sym (c .before .before .before .before .before .before .covered .ensures) ∙ not-false _ (c .before .before .before .before .before .if1 .left), c .after-sub .ensures)
+returns-2 c = λ rd rs1 R. rw (sym (c .before .before .before .before .before .before .covered .ensures) ∙ not-false _ (c .before .before .before .before .before .if1 .left), c .after-larger .ensures)
 
 pub difference-spec : {M : Type 1} → statement M
 difference-spec =

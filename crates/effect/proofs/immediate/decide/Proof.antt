@@ -19,11 +19,11 @@ returns-2 c = rw (c .before .before .before .before .enum-told2 .given .1) (of-f
 
 returns-3 : tie.Need-returns-3
 unfolding effect result resultBits registerForm
-returns-3 c = rw (c .before .before .before .before .enum-told3 .given .1) (of-form (λ a b x imm v e. rw (c .writes3 .ensures, c .before .after-sub .ensures, c .before .before .from-constant3 .ensures, c .before .before .before .or .ensures, e)))
+returns-3 c = rw (c .before .before .before .before .enum-told3 .given .1) (of-form (λ a b x imm v e. rw (c .writes3 .ensures, c .before .after-larger .ensures, c .before .before .from-constant3 .ensures, c .before .before .before .or .ensures, e)))
 
 returns-4 : tie.Need-returns-4
 unfolding effect result resultBits registerForm
-returns-4 c = rw (c .before .before .before .before .enum-told4 .given .1) (of-form (λ a b x imm v e. rw (c .writes4 .ensures, c .before .after-sub2 .ensures, c .before .before .from-constant4 .ensures, c .before .before .before .xor .ensures, e)))
+returns-4 c = rw (c .before .before .before .before .enum-told4 .given .1) (of-form (λ a b x imm v e. rw (c .writes4 .ensures, c .before .after-larger2 .ensures, c .before .before .from-constant4 .ensures, c .before .before .before .xor .ensures, e)))
 
 returns-5 : tie.Need-returns-5
 unfolding effect loading loadSize loaded

@@ -15,7 +15,7 @@ returns c = rw (c .before .before .before .enum-told .given .1) (of-form (λ a b
 
 returns-2 : tie.Need-returns-2
 unfolding effect
-returns-2 c = rw (c .before .before .before .enum-told2 .given .1) (of-form (λ a b x imm v m e. rw (c .writes .ensures, c .before .after-sub .ensures, c .before .before .sub .ensures, e)))
+returns-2 c = rw (c .before .before .before .enum-told2 .given .1) (of-form (λ a b x imm v m e. rw (c .writes .ensures, c .before .after-larger .ensures, c .before .before .sub .ensures, e)))
 
 returns-3 : tie.Need-returns-3
 unfolding effect
@@ -47,11 +47,11 @@ returns-9 c = rw (c .before .before .before .enum-told9 .given .1) (of-form (λ 
 
 returns-10 : tie.Need-returns-10
 unfolding effect result resultBits
-returns-10 c = rw (c .before .before .before .enum-told10 .given .1) (of-form (λ a b x imm v m e. rw (c .writes4 .ensures, c .before .after-sub2 .ensures, c .before .before .or .ensures, e)))
+returns-10 c = rw (c .before .before .before .enum-told10 .given .1) (of-form (λ a b x imm v m e. rw (c .writes4 .ensures, c .before .after-larger2 .ensures, c .before .before .or .ensures, e)))
 
 returns-11 : tie.Need-returns-11
 unfolding effect result resultBits
-returns-11 c = rw (c .before .before .before .enum-told11 .given .1) (of-form (λ a b x imm v m e. rw (c .writes5 .ensures, c .before .after-sub3 .ensures, c .before .before .xor .ensures, e)))
+returns-11 c = rw (c .before .before .before .enum-told11 .given .1) (of-form (λ a b x imm v m e. rw (c .writes5 .ensures, c .before .after-larger3 .ensures, c .before .before .xor .ensures, e)))
 
 returns-12 : tie.Need-returns-12
 unfolding effect result resultBits

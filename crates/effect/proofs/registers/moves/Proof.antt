@@ -2,7 +2,7 @@ use Rattle.effect.proofs.registers.moves.Statement.{statement}
 use Rattle.effect.proofs.registers.moves.Tie as tie
 
 returns : tie.Need-returns
-returns c = λ rd pc. rw (c .before .before .if1 .taken) (rw (c .writes .ensures, c .before .after-move .ensures))
+returns c = λ rd pc. rw (c .before .before .if1 .taken) (rw (c .writes .ensures, c .before .after-larger .ensures))
 
 returns-2 : tie.Need-returns-2
 returns-2 c = λ rd pc. rw (c .if1 .left)

@@ -1,7 +1,7 @@
 use mathlib.Core.Path.{refl}
 use Rattle.effect.specs.Operations.{storeSize}
 use Rattle.instruction.proofs.Kindred.{others}
-use Rattle.instruction.specs.Operands.{storeOf}
+use Rattle.instruction.specs.Kinds.{storeKindOf}
 use Rattle.opcode.specs.declared.Opcode.{Opcode}
 use Rattle.memory.specs.Memory.{sizeOf}
 use Rattle.memory.specs.declared.Size.the-variants.{Byte}
@@ -24,7 +24,7 @@ returns-3 c = rw (c .enum-told3 .given .1)
 
 returns-4 : tie.Need-returns-4
 unfolding storeSize all
-returns-4 c = others sizeOf (λ (op : Opcode). storeSize (storeOf op)) Byte refl (c .before .args .op) (c .match .keys4)
+returns-4 c = others sizeOf (λ (op : Opcode). storeSize (storeKindOf op)) Byte refl (c .before .args .op) (c .match .keys4)
 
 pub store-size-spec : {M : Type 1} → statement M
 store-size-spec =

@@ -17,11 +17,11 @@ cast-t10 c = search needs
 has-carries-requires : tie.Need-has-carries-requires
 has-carries-requires c κs = tt
 
-bit-of-requires : tie.Need-bit-of-requires
-bit-of-requires c κs = tt
+bit-requires : tie.Need-bit-requires
+bit-requires c κs = tt
 
 returns : tie.Need-returns
-returns c = rw (c .bit-of .ensures, c .before .has-carries .ensures)
+returns c = rw (c .bit .ensures, c .before .has-carries .ensures)
 
 pub after-of-spec : {M : Type 1} → statement M
 after-of-spec =
@@ -32,5 +32,5 @@ after-of-spec =
     array-read-t9
     cast-t10
     has-carries-requires
-    bit-of-requires
+    bit-requires
     returns)

@@ -1,6 +1,6 @@
 use Rattle.opcode.specs.Opcodes.{all}
 use Rattle.instruction.specs.declared.Division.the-variants.{Div}
-use Rattle.instruction.specs.Operands.{divisionOf}
+use Rattle.instruction.specs.Kinds.{divisionOf}
 use Rattle.instruction.proofs.Division as Kind
 use Rattle.instruction.proofs.Kindred.{others}
 use denote.Enum.Declared.{tagOf}

@@ -1,6 +1,6 @@
 use Rattle.opcode.specs.Opcodes.{all}
 use Rattle.instruction.specs.declared.ImmOperation.the-variants.{Andi}
-use Rattle.instruction.specs.Operands.{immOperationOf}
+use Rattle.instruction.specs.Kinds.{immOperationOf}
 use Rattle.instruction.proofs.ImmOperation as Kind
 use Rattle.instruction.proofs.Kindred.{others}
 use denote.Enum.Declared.{tagOf}

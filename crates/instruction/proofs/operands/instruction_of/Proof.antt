@@ -1,7 +1,7 @@
 use Rattle.opcode.specs.Opcodes.{all}
 use Rattle.opcode.specs.declared.Opcode.{Opcode}
 use Rattle.instruction.specs.declared.Instruction.the-variants as N
-use Rattle.instruction.specs.Operands.{divisionOf, operationOf, immOperationOf, moveOf, loadOf, storeOf, branchOf}
+use Rattle.instruction.specs.Kinds.{divisionOf, operationOf, immOperationOf, moveKindOf, loadKindOf, storeKindOf, branchKindOf}
 use Rattle.instruction.proofs.Kindred.{at-places}
 use mathlib.Core.List.{[], _∷_}
 use mathlib.Core.Path.{refl}
@@ -109,19 +109,19 @@ returns-10 c = rw (c .operate-imm .ensures, c .before .imm-operation .ensures) (
 
 returns-11 : tie.Need-returns-11
 unfolding all
-returns-11 c = rw (c .move-if .ensures, c .before .move-kind .ensures) (at-places (c .before .before .before .args .p) (λ (op : Opcode). N.Move (moveOf op) (c .before .before .before .args .p .a) (c .before .before .before .args .p .b) (c .before .before .before .args .p .c)) (27 ∷ 28 ∷ 29 ∷ []) refl (c .before .before .match .keys11))
+returns-11 c = rw (c .move-if .ensures, c .before .move-kind .ensures) (at-places (c .before .before .before .args .p) (λ (op : Opcode). N.Move (moveKindOf op) (c .before .before .before .args .p .a) (c .before .before .before .args .p .b) (c .before .before .before .args .p .c)) (27 ∷ 28 ∷ 29 ∷ []) refl (c .before .before .match .keys11))
 
 returns-12 : tie.Need-returns-12
 unfolding all
-returns-12 c = rw (c .load .ensures, c .before .load-kind .ensures) (at-places (c .before .before .before .args .p) (λ (op : Opcode). N.Load (loadOf op) (c .before .before .before .args .p .a) (c .before .before .before .args .p .b) (c .before .before .before .args .p .imm)) (30 ∷ 31 ∷ 32 ∷ 33 ∷ 34 ∷ 35 ∷ []) refl (c .before .before .match .keys12))
+returns-12 c = rw (c .load .ensures, c .before .load-kind .ensures) (at-places (c .before .before .before .args .p) (λ (op : Opcode). N.Load (loadKindOf op) (c .before .before .before .args .p .a) (c .before .before .before .args .p .b) (c .before .before .before .args .p .imm)) (30 ∷ 31 ∷ 32 ∷ 33 ∷ 34 ∷ 35 ∷ []) refl (c .before .before .match .keys12))
 
 returns-13 : tie.Need-returns-13
 unfolding all
-returns-13 c = rw (c .store .ensures, c .before .store-kind .ensures) (at-places (c .before .before .before .args .p) (λ (op : Opcode). N.Store (storeOf op) (c .before .before .before .args .p .a) (c .before .before .before .args .p .b) (c .before .before .before .args .p .imm)) (36 ∷ 37 ∷ 38 ∷ 39 ∷ []) refl (c .before .before .match .keys13))
+returns-13 c = rw (c .store .ensures, c .before .store-kind .ensures) (at-places (c .before .before .before .args .p) (λ (op : Opcode). N.Store (storeKindOf op) (c .before .before .before .args .p .a) (c .before .before .before .args .p .b) (c .before .before .before .args .p .imm)) (36 ∷ 37 ∷ 38 ∷ 39 ∷ []) refl (c .before .before .match .keys13))
 
 returns-14 : tie.Need-returns-14
 unfolding all
-returns-14 c = rw (c .branch .ensures, c .before .branch-kind .ensures) (at-places (c .before .before .before .args .p) (λ (op : Opcode). N.Branch (branchOf op) (c .before .before .before .args .p .a) (c .before .before .before .args .p .b) (c .before .before .before .args .p .imm)) (40 ∷ 41 ∷ 42 ∷ 43 ∷ 44 ∷ 45 ∷ []) refl (c .before .before .match .keys14))
+returns-14 c = rw (c .branch .ensures, c .before .branch-kind .ensures) (at-places (c .before .before .before .args .p) (λ (op : Opcode). N.Branch (branchKindOf op) (c .before .before .before .args .p .a) (c .before .before .before .args .p .b) (c .before .before .before .args .p .imm)) (40 ∷ 41 ∷ 42 ∷ 43 ∷ 44 ∷ 45 ∷ []) refl (c .before .before .match .keys14))
 
 returns-15 : tie.Need-returns-15
 unfolding all

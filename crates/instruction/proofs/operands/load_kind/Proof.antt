@@ -1,6 +1,6 @@
 use Rattle.opcode.specs.Opcodes.{all}
 use Rattle.instruction.specs.declared.LoadKind.the-variants.{Lb}
-use Rattle.instruction.specs.Operands.{loadOf}
+use Rattle.instruction.specs.Kinds.{loadKindOf}
 use Rattle.instruction.proofs.LoadKind as Kind
 use Rattle.instruction.proofs.Kindred.{others}
 use denote.Enum.Declared.{tagOf}
@@ -41,7 +41,7 @@ returns-5 c = rw (c .enum-told5 .given .1)
 
 returns-6 : tie.Need-returns-6
 unfolding all
-returns-6 c = others (tagOf Kind.the-type) loadOf Lb refl (c .before .args .op) (c .match .keys6)
+returns-6 c = others (tagOf Kind.the-type) loadKindOf Lb refl (c .before .args .op) (c .match .keys6)
 
 pub load-kind-spec : {M : Type 1} → statement M
 load-kind-spec =

@@ -1,6 +1,6 @@
 use Rattle.opcode.specs.Opcodes.{all}
 use Rattle.instruction.specs.declared.Operation.the-variants.{Mulh}
-use Rattle.instruction.specs.Operands.{operationOf}
+use Rattle.instruction.specs.Kinds.{operationOf}
 use Rattle.instruction.proofs.Operation as Kind
 use Rattle.instruction.proofs.Kindred.{others}
 use denote.Enum.Declared.{tagOf}

@@ -1,6 +1,6 @@
 use Rattle.opcode.specs.Opcodes.{all}
 use Rattle.instruction.specs.declared.StoreKind.the-variants.{Sb}
-use Rattle.instruction.specs.Operands.{storeOf}
+use Rattle.instruction.specs.Kinds.{storeKindOf}
 use Rattle.instruction.proofs.StoreKind as Kind
 use Rattle.instruction.proofs.Kindred.{others}
 use denote.Enum.Declared.{tagOf}
@@ -29,7 +29,7 @@ returns-3 c = rw (c .enum-told3 .given .1)
 
 returns-4 : tie.Need-returns-4
 unfolding all
-returns-4 c = others (tagOf Kind.the-type) storeOf Sb refl (c .before .args .op) (c .match .keys4)
+returns-4 c = others (tagOf Kind.the-type) storeKindOf Sb refl (c .before .args .op) (c .match .keys4)
 
 pub store-kind-spec : {M : Type 1} → statement M
 store-kind-spec =

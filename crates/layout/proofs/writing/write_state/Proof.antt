@@ -8,8 +8,11 @@ use Rattle.layout.proofs.writing.write_state.Tie as tie
 returns : tie.Need-returns
 returns c = written-none STATE_BYTES _ _ (c .if1 .taken)
 
-mark-of-requires : tie.Need-mark-of-requires
-mark-of-requires c κs = search needs
+bit-requires : tie.Need-bit-requires
+bit-requires c κs = tt
+
+cast-put-header : tie.Need-cast-put-header
+cast-put-header c = search needs
 
 put-header-requires : tie.Need-put-header-requires
 put-header-requires c κs = search needs
@@ -22,7 +25,7 @@ same-length c = search needs
 
 returns-2 : tie.Need-returns-2
 returns-2 c =
-    rw (c .before .before .put-records .ensures, c .before .before .before .before .before .before .before .before .before .before .before .before .put-header .ensures, c .before .before .before .before .before .before .before .before .before .before .before .before .before .mark-of .ensures)
+    rw (c .before .before .put-records .ensures, c .before .before .before .before .before .before .before .before .before .before .before .before .put-header .ensures, c .before .before .before .before .before .before .before .before .before .before .before .before .before .bit .ensures)
     (state-stored (c .before .before .before .before .before .before .before .before .before .before .before .before .before .before .before .before .before .args .s) _ (c .before .before .before .before .before .before .before .before .before .before .before .before .before .before .before .if1 .left))
 
 pub write-state-spec : {M : Type 1} → statement M
@@ -30,7 +33,8 @@ write-state-spec =
     tie.close
     (tie.spec
     returns
-    mark-of-requires
+    bit-requires
+    cast-put-header
     put-header-requires
     put-records-requires
     same-length
