@@ -27,8 +27,7 @@ use Rattle.pending.specs.Pending.{Lists, listsFit}
 use Rattle.execute.specs.Rules.{Rules, obey}
 use Rattle.pending.specs.Pending.{lacks}
 use Rattle.pending.specs.declared.Room.{Room}
-use Rattle.step.specs.Step.{fetched, Left, left, stepOf, step}
-use Rattle.step.specs.Leg.{goesOn}
+use Rattle.step.specs.Step.{fetched, Left, left, stepOf, step, goesOn}
 use Rattle.run.specs.Run.{Answer, answer, after, following, loop, run}
 use Rattle.agreement.proofs.Cases.{cond-case, limb-cases}
 

@@ -19,8 +19,8 @@ use Rattle.pending.specs.Pending.{Lists, Check, roomOf, listing}
 use Rattle.pending.specs.declared.Room.{Room}
 use Rattle.pending.specs.declared.Room.the-variants.{Unlent, Left}
 use Rattle.pending.proofs.Lists.{unlent-stays}
-use Rattle.step.specs.Step.{left, stepIn, stepOf}
-use Rattle.step.specs.Leg.{Leg, leg, later, goesOn, counted, unlisted, passing, legIn}
+use Rattle.step.specs.Step.{left, stepIn, stepOf, goesOn, counted}
+use Rattle.step.specs.Leg.{Leg, leg, later, unlisted, passing, legIn}
 
 -- a step of a loop that may go on
 pub one-more : (fuel n : ℕ) → n < fuel → n + 1 ≤ fuel
