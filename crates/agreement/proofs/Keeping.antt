@@ -32,6 +32,21 @@ use Rattle.run.specs.Run.{Answer, answer, after, following, loop, run}
 use Rattle.agreement.proofs.Cases.{cond-case, limb-cases}
 
 module _ (Q : Registers → Type 0) (N : Notes)
+    (whole : (i : Instruction) (v : Seen) (m : List ℕ) (e : Effect) (R : Registers) → effect N i v m ≡ Does e → Q R → Q (put R (e .rd) (Whole (e .value)) (e .bound))) where
+  done-keeps : (room : Room) (i : Instruction) (v : Seen) (o : Outcome) (w : World) (R : Registers) → effect N i v (w .memory) ≡ o → Q (w .registers) → Q R → Q ((done room o w R) .world .registers)
+  unfolding done
+  done-keeps room i v (Refuses r) w R p z h = z
+  done-keeps room i v (Does e) w R p z h =
+      cond-case (λ (s : Stepped). Q (s .world .registers)) (lacks room (length (checksFor e))) (refused _ w) (does e (w .halted) R (w .memory))
+      (λ _. z)
+      (λ _. whole i v (w .memory) e R p h)
+
+  -- the plain mode normalises nothing and has no limb forms
+  pub plain-keeps : (room : Room) (i : Instruction) (w : World) → Q (w .registers) → Q ((execute Plain room N i w) .world .registers)
+  unfolding execute finish limbsIn settle
+  plain-keeps room i w h = done-keeps room i _ _ w _ refl h h
+
+module _ (Q : Registers → Type 0) (N : Notes)
     (normal : (n : ℕ) (R : Registers) → Q R → Q (normalise n R))
     (whole : (i : Instruction) (v : Seen) (m : List ℕ) (e : Effect) (R : Registers) → effect N i v m ≡ Does e → Q R → Q (put R (e .rd) (Whole (e .value)) (e .bound)))
     (sum : (rd : ℕ) (x y : Held) (a b : ℕ) (R T : Registers) → Q R → Q T → Q (sumInto rd x y (N .sum a b) R T))
@@ -57,21 +72,13 @@ module _ (Q : Registers → Type 0) (N : Notes)
       (λ _. h)
       i
 
-  done-keeps : (room : Room) (i : Instruction) (v : Seen) (o : Outcome) (w : World) (R : Registers) → effect N i v (w .memory) ≡ o → Q (w .registers) → Q R → Q ((done room o w R) .world .registers)
-  unfolding done
-  done-keeps room i v (Refuses r) w R p z h = z
-  done-keeps room i v (Does e) w R p z h =
-      cond-case (λ (s : Stepped). Q (s .world .registers)) (lacks room (length (checksFor e))) (refused _ w) (does e (w .halted) R (w .memory))
-      (λ _. z)
-      (λ _. whole i v (w .memory) e R p h)
-
   pub execute-keeps : (k : Mode) (room : Room) (i : Instruction) (w : World) → Q (w .registers) → Q ((execute k room N i w) .world .registers)
   unfolding execute finish
   execute-keeps k room i w h =
       let l = limbsIn k N i (w .registers) in
       cond-case (λ (s : Stepped). Q (s .world .registers)) (l .waits) (onward w (l .registers)) _
       (λ _. limbs-keep k i (w .registers) h)
-      (λ _. done-keeps room i _ _ w _ refl h (settle-keeps k i (w .registers) h))
+      (λ _. done-keeps Q N whole room i _ _ w _ refl h (settle-keeps k i (w .registers) h))
 
 module _ (Q : Registers → Type 0) (k : Mode) (R : Rules)
     (keeps : (room : Room) (i : Instruction) (w : World) → Q (w .registers) → Q ((execute k room (R .notes) i w) .world .registers)) where

@@ -12,3 +12,6 @@ pub mod Runs
 pub mod Bytes
 pub mod Calls
 pub mod Contracts
+pub mod Taken
+pub mod Fuel
+pub mod Iterated

@@ -77,7 +77,7 @@ pub step-is-leg : (k : Mode) (R : Rules) (w : World) (l : Lists) (a : Leg) → a
 unfolding legIn stepOf
 step-is-leg k R w l a e = let s = stepIn k (roomOf l) R w in one-step-leg k (roomOf l) R l (w .pc) (s .went) (s .checks) (s .world) a refl e
 
-at-most-one : (g : Went) → counted g ≤ 1
+pub at-most-one : (g : Went) → counted g ≤ 1
 unfolding counted
 at-most-one W.On = omega arith
 at-most-one W.Ebreak = omega arith
