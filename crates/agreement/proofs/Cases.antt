@@ -12,6 +12,10 @@ pub cond-case : {A : Type 0} (P : A → Type 0) (t : Bool) (a b : A) → (t ≡ 
 cond-case P true a b f g = f refl
 cond-case P false a b f g = g refl
 
+pub test-case : {P : Type 0} (t : Bool) → (t ≡ true → P) → (t ≡ false → P) → P
+test-case true f g = f refl
+test-case false f g = g refl
+
 -- only Add, Addi and Sub have one
 module _ (N : Notes) (R : Registers) (P : Instruction → Limbed → Type 0)
     (add : (rd rs1 rs2 : ℕ) → P (Add rd rs1 rs2) (limbed true (added N rd rs1 rs2 R)))

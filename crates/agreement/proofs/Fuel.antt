@@ -3,6 +3,7 @@ use Prim.Native.Nat.{ℕ, zero, suc, _+_, _≤_}
 use mathlib.Core.Path.{_≡_, refl, sym, ap, _∙_}
 use mathlib.Core.Bool.{Bool, true, false, cond}
 use native.Mathlib.Omega.{arith}
+use Rattle.refusal.specs.Stops.{refusalOf}
 use Rattle.refusal.specs.declared.Stop.the-variants as S
 use Rattle.execute.specs.World.{World}
 use Rattle.execute.specs.Rules.{Rules}
@@ -10,13 +11,13 @@ use Rattle.execute.specs.declared.Mode.{Mode}
 use Rattle.execute.specs.declared.Went.{Went}
 use Rattle.execute.specs.declared.Went.the-variants as W
 use Rattle.pending.specs.Pending.{Lists}
-use Rattle.step.specs.Step.{stepOf, step, goesOn, counted}
+use Rattle.step.specs.Step.{Left, stepOf, step, goesOn, counted}
 use Rattle.step.proofs.Legs.{at-most-one}
 use Rattle.run.specs.Run.{Answer, answer, after, stopOf, following, loop, run}
 use Rattle.agreement.specs.Keeping.{Capped}
 use Rattle.agreement.specs.Fuel.{takes, ranDry, continued}
 use Rattle.agreement.specs.Statements.{RunsWithinFuel, RunsContinue}
-use Rattle.agreement.proofs.Cases.{cond-case}
+use Rattle.agreement.proofs.Cases.{cond-case, test-case}
 use Rattle.agreement.proofs.Taken.{takes-kept, mark-kept}
 
 -- ---- never more
@@ -38,10 +39,111 @@ runs-within R k fuel w l =
 
 -- ---- a run by its first step
 module _ (k : Mode) (R : Rules) (w : World) (l : Lists) where
-  pub run-malformed : takes k w l ≡ false → (fuel : ℕ) → run k R fuel w l ≡ answer _ 0 w l
+  pub run-malformed : takes k w l ≡ false → (fuel : ℕ) → run k R fuel w l ≡ answer (S.Refused (refusalOf 9 0)) 0 w l
   unfolding run
   run-malformed t fuel = rw t
 
-  pub run-halted : takes k w l ≡ true → w .halted ≡ true → (fuel : ℕ) → run k R fuel w l ≡ answer S.Ebreak 0 w l
-  unfolding run
-  run-halted t h fuel = rw (t, h)
+  module _ (t : takes k w l ≡ true) where
+    pub run-halted : w .halted ≡ true → (fuel : ℕ) → run k R fuel w l ≡ answer S.Ebreak 0 w l
+    unfolding run
+    run-halted h fuel = rw (t, h)
+
+    pub step-is-inner : step k R w l ≡ stepOf k R w l
+    unfolding step
+    step-is-inner = rw t
+
+    run-is-loop : w .halted ≡ false → (fuel : ℕ) → run k R fuel w l ≡ loop fuel k R w l
+    unfolding run
+    run-is-loop h fuel = rw (t, h)
+
+-- a run that takes its steps
+pub record Ready (k : Mode) (w : World) (l : Lists) : Type 0 where
+  pub taken : takes k w l ≡ true
+  pub unhalted : w .halted ≡ false
+
+pub on : (g : Went) → goesOn g ≡ true → g ≡ W.On
+unfolding goesOn
+on W.On e = refl
+on W.Ebreak e = cc
+on W.Ecall e = cc
+on (W.Refused r) e = cc
+
+module _ (k : Mode) (R : Rules) (c : Capped (R .notes)) (w : World) (l : Lists) (ready : Ready k w l) where
+  abbrev first : Left
+  first = step k R w l
+
+  pub ready-on : goesOn (first .went) ≡ true → Ready k (first .world) (first .lists)
+  ready-on e =
+      let i = step-is-inner k R w l (ready .taken) in
+      rw i
+      record { taken = takes-kept k R c w l (ready .taken); unhalted = mark-kept k R w l (on _ (rw i at e)) ∙ ready .unhalted }
+
+  pub run-none : run k R 0 w l ≡ answer S.Fuel 0 w l
+  unfolding loop
+  run-none = run-is-loop k R w l (ready .taken) (ready .unhalted) 0
+
+  pub run-on : (n : ℕ) → goesOn (first .went) ≡ true → run k R (suc n) w l ≡ after 1 (run k R n (first .world) (first .lists))
+  unfolding loop following
+  run-on n e =
+      let next = ready-on e in
+      run-is-loop k R w l (ready .taken) (ready .unhalted) (suc n)
+      ∙ rw (← step-is-inner k R w l (ready .taken), e, run-is-loop k R (first .world) (first .lists) (next .taken) (next .unhalted) n)
+
+  pub run-ends : (n : ℕ) → goesOn (first .went) ≡ false
+      → run k R (suc n) w l ≡ answer (stopOf (first .went)) (counted (first .went)) (first .world) (first .lists)
+  unfolding loop following
+  run-ends n e =
+      run-is-loop k R w l (ready .taken) (ready .unhalted) (suc n)
+      ∙ rw (← step-is-inner k R w l (ready .taken), e)
+
+-- ---- two runs
+dry-on : (g : Went) → ranDry (stopOf g) ≡ goesOn g
+unfolding ranDry stopOf goesOn
+dry-on W.On = refl
+dry-on W.Ebreak = refl
+dry-on W.Ecall = refl
+dry-on (W.Refused r) = refl
+
+-- the answer of none before it
+after-none : (a : Answer) → a ≡ after 0 a
+after-none a = ap (λ (i : ℕ). answer (a .stop) i (a .world) (a .lists)) (omega arith)
+
+-- a step before two runs
+continued-after : (a b : Answer) → after 1 (continued a b) ≡ continued (after 1 a) b
+unfolding continued
+continued-after a b = told (ranDry (a .stop))
+  where
+    told : (t : Bool) → after 1 (cond t (after (a .steps) b) a) ≡ cond t (after (1 + a .steps) b) (after 1 a)
+    told true = ap (λ (i : ℕ). answer (b .stop) i (b .world) (b .lists)) (omega arith)
+    told false = refl
+
+-- a run that doesn't stop on fuel stays as it is
+stays : (a b : Answer) → ranDry (a .stop) ≡ false → a ≡ continued a b
+unfolding continued
+stays a b e = rw e
+
+abbrev onward : Mode → Rules → ℕ → Answer → Answer
+onward k R g a = continued a (run k R g (a .world) (a .lists))
+
+module _ (k : Mode) (R : Rules) (c : Capped (R .notes)) (g : ℕ) where
+  continue : (f : ℕ) (w : World) (l : Lists) → Ready k w l → run k R (f + g) w l ≡ onward k R g (run k R f w l)
+  unfolding continued ranDry
+  continue zero w l ready = let z : 0 + g ≡ g = omega arith in rw (z, run-none k R c w l ready) (after-none (run k R g w l))
+  continue (suc f) w l ready =
+      let s = step k R w l in
+      let z : suc f + g ≡ suc (f + g) = omega arith in
+      test-case (goesOn (s .went))
+      (λ e.
+      rw (z, run-on k R c w l ready (f + g) e, run-on k R c w l ready f e)
+      (ap (after 1) (continue f (s .world) (s .lists) (ready-on k R c w l ready e)) ∙ continued-after (run k R f (s .world) (s .lists)) _))
+      (λ e. rw (z, run-ends k R c w l ready (f + g) e, run-ends k R c w l ready f e) (stays _ _ (dry-on (s .went) ∙ e)))
+
+pub runs-continue : RunsContinue
+unfolding ranDry
+runs-continue R c k f g w l =
+    test-case (takes k w l)
+    (λ p.
+    test-case (w .halted)
+    (λ q. rw (run-halted k R w l p q (f + g), run-halted k R w l p q f) (stays _ _ refl))
+    (λ q. continue k R c g f w l record { taken = p; unhalted = q }))
+    (λ p. rw (run-malformed k R w l p (f + g), run-malformed k R w l p f) (stays _ _ refl))
