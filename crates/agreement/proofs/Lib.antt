@@ -15,3 +15,4 @@ pub mod Contracts
 pub mod Taken
 pub mod Fuel
 pub mod Iterated
+pub mod Answers
