@@ -1,6 +1,6 @@
 -- A run's steps and fuel carried to the code, through the contracts of `run_plain` and `run_deferred`.
-use Prim.Native.Nat.{ℕ, _+_, _≤_}
-use mathlib.Core.Path.{_≡_, sym, ap, ap₂, _∙_}
+use Prim.Native.Nat.{ℕ, _+_}
+use mathlib.Core.Path.{_≡_}
 use contract.Lifetimes.{Lfts}
 use denote.Triple.Entry.{Args}
 use Rattle.execute.specs.World.{World}

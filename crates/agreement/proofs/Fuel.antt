@@ -1,24 +1,22 @@
 -- A run's fuel: its steps are never more, and a run of f + g is two runs.
 use Prim.Native.Nat.{ℕ, zero, suc, _+_, _≤_}
-use mathlib.Core.Path.{_≡_, refl, sym, ap, _∙_}
+use mathlib.Core.Path.{_≡_, refl, ap, _∙_}
 use mathlib.Core.Bool.{Bool, true, false, cond}
 use native.Mathlib.Omega.{arith}
-use Rattle.refusal.specs.Stops.{refusalOf}
-use Rattle.refusal.specs.declared.Stop.the-variants as S
 use Rattle.execute.specs.World.{World}
 use Rattle.execute.specs.Rules.{Rules}
 use Rattle.execute.specs.declared.Mode.{Mode}
 use Rattle.execute.specs.declared.Went.{Went}
 use Rattle.execute.specs.declared.Went.the-variants as W
 use Rattle.pending.specs.Pending.{Lists}
-use Rattle.step.specs.Step.{Left, stepOf, step, goesOn, counted}
+use Rattle.step.specs.Step.{stepOf, step, goesOn, counted}
 use Rattle.step.proofs.Legs.{at-most-one}
 use Rattle.run.specs.Run.{Answer, answer, after, stopOf, following, loop, run}
 use Rattle.agreement.specs.Keeping.{Capped}
 use Rattle.agreement.specs.Fuel.{takes, ranDry, continued}
 use Rattle.agreement.specs.Statements.{RunsWithinFuel, RunsContinue}
 use Rattle.agreement.proofs.Cases.{cond-case, test-case}
-use Rattle.agreement.proofs.Taken.{takes-kept, mark-kept}
+use Rattle.agreement.proofs.Ready.{Ready, run-malformed, run-halted, run-none, run-on, run-ends, ready-on}
 
 -- ---- never more
 loop-within : (n : ℕ) (k : Mode) (R : Rules) (w : World) (l : Lists) → (loop n k R w l) .steps ≤ n
@@ -36,65 +34,6 @@ runs-within R k fuel w l =
     cond-case (λ (a : Answer). a .steps ≤ fuel) (takes k w l) _ (answer _ 0 _ _)
     (λ _. cond-case (λ (a : Answer). a .steps ≤ fuel) (w .halted) (answer _ 0 _ _) (loop fuel k R w l) (λ _. omega arith) (λ _. loop-within fuel k R w l))
     (λ _. omega arith)
-
--- ---- a run by its first step
-module _ (k : Mode) (R : Rules) (w : World) (l : Lists) where
-  pub run-malformed : takes k w l ≡ false → (fuel : ℕ) → run k R fuel w l ≡ answer (S.Refused (refusalOf 9 0)) 0 w l
-  unfolding run
-  run-malformed t fuel = rw t
-
-  module _ (t : takes k w l ≡ true) where
-    pub run-halted : w .halted ≡ true → (fuel : ℕ) → run k R fuel w l ≡ answer S.Ebreak 0 w l
-    unfolding run
-    run-halted h fuel = rw (t, h)
-
-    pub step-is-inner : step k R w l ≡ stepOf k R w l
-    unfolding step
-    step-is-inner = rw t
-
-    run-is-loop : w .halted ≡ false → (fuel : ℕ) → run k R fuel w l ≡ loop fuel k R w l
-    unfolding run
-    run-is-loop h fuel = rw (t, h)
-
--- a run that takes its steps
-pub record Ready (k : Mode) (w : World) (l : Lists) : Type 0 where
-  pub taken : takes k w l ≡ true
-  pub unhalted : w .halted ≡ false
-
-pub on : (g : Went) → goesOn g ≡ true → g ≡ W.On
-unfolding goesOn
-on W.On e = refl
-on W.Ebreak e = cc
-on W.Ecall e = cc
-on (W.Refused r) e = cc
-
-module _ (k : Mode) (R : Rules) (c : Capped (R .notes)) (w : World) (l : Lists) (ready : Ready k w l) where
-  abbrev first : Left
-  first = step k R w l
-
-  pub ready-on : goesOn (first .went) ≡ true → Ready k (first .world) (first .lists)
-  ready-on e =
-      let i = step-is-inner k R w l (ready .taken) in
-      rw i
-      record { taken = takes-kept k R c w l (ready .taken); unhalted = mark-kept k R w l (on _ (rw i at e)) ∙ ready .unhalted }
-
-  pub run-none : run k R 0 w l ≡ answer S.Fuel 0 w l
-  unfolding loop
-  run-none = run-is-loop k R w l (ready .taken) (ready .unhalted) 0
-
-  pub run-on : (n : ℕ) → goesOn (first .went) ≡ true → run k R (suc n) w l ≡ after 1 (run k R n (first .world) (first .lists))
-  unfolding loop following
-  run-on n e =
-      let next = ready-on e in
-      run-is-loop k R w l (ready .taken) (ready .unhalted) (suc n)
-      ∙ rw (← step-is-inner k R w l (ready .taken), e, run-is-loop k R (first .world) (first .lists) (next .taken) (next .unhalted) n)
-
-  pub run-ends : (n : ℕ) → goesOn (first .went) ≡ false
-      → run k R (suc n) w l ≡ answer (stopOf (first .went)) (counted (first .went)) (first .world) (first .lists)
-  unfolding loop following
-  run-ends n e =
-      run-is-loop k R w l (ready .taken) (ready .unhalted) (suc n)
-      ∙ rw (← step-is-inner k R w l (ready .taken), e)
 
 -- ---- two runs
 dry-on : (g : Went) → ranDry (stopOf g) ≡ goesOn g
@@ -144,6 +83,6 @@ runs-continue R c k f g w l =
     test-case (takes k w l)
     (λ p.
     test-case (w .halted)
-    (λ q. rw (run-halted k R w l p q (f + g), run-halted k R w l p q f) (stays _ _ refl))
+    (λ q. rw (run-halted k R w l (f + g) p q, run-halted k R w l f p q) (stays _ _ refl))
     (λ q. continue k R c g f w l record { taken = p; unhalted = q }))
-    (λ p. rw (run-malformed k R w l p (f + g), run-malformed k R w l p f) (stays _ _ refl))
+    (λ p. rw (run-malformed k R w l (f + g) p, run-malformed k R w l f p) (stays _ _ refl))

@@ -1,25 +1,24 @@
 -- A run's steps are those of the single step, taken over and over.
 use Prim.Native.Nat.{ℕ, zero, suc, _+_, _≤_, _<_}
-use mathlib.Core.Path.{_≡_, refl, sym, ap, _∙_}
-use mathlib.Core.Bool.{Bool, true, false}
+use mathlib.Core.Path.{_≡_, refl, ap, _∙_}
+use mathlib.Core.Bool.{true, false}
 use native.Mathlib.Omega.{arith}
 use Rattle.refusal.specs.declared.Refusal.{Refusal}
 use Rattle.refusal.specs.declared.Stop.{Stop}
 use Rattle.refusal.specs.declared.Stop.the-variants as S
-use Rattle.execute.specs.World.{World}
 use Rattle.execute.specs.Rules.{Rules}
 use Rattle.execute.specs.declared.Mode.{Mode}
 use Rattle.execute.specs.declared.Went.{Went}
 use Rattle.execute.specs.declared.Went.the-variants as W
-use Rattle.pending.specs.Pending.{Lists}
 use Rattle.step.specs.Step.{Left, left, step, goesOn, counted}
+use Rattle.step.proofs.Steps.{step-taken}
 use Rattle.run.specs.Run.{Answer, answer, after, stopOf, run}
 use Rattle.agreement.specs.Keeping.{Capped}
-use Rattle.agreement.specs.Fuel.{times, nth, takes, Says, Counts, BySteps}
+use Rattle.agreement.specs.Fuel.{times, takes, Says, Counts}
 use Rattle.agreement.specs.Statements.{RunsAreSteps}
 use Rattle.agreement.proofs.Cases.{test-case}
-use Rattle.agreement.proofs.Taken.{refused-keeps}
-use Rattle.agreement.proofs.Fuel.{Ready, on, step-is-inner, run-malformed, run-halted, run-none, run-on, run-ends, ready-on}
+use Rattle.agreement.proofs.Went.{refused-keeps}
+use Rattle.agreement.proofs.Ready.{Ready, on, run-malformed, run-halted, run-none, run-on, run-ends, ready-on}
 
 -- ---- the steps s, of which t are those after the first
 module _ (fuel : ℕ) (s t : ℕ → Left) (start : s 0 .went ≡ W.On) (shift : (i : ℕ) → s (suc i) ≡ t i) where
@@ -67,7 +66,7 @@ module _ (k : Mode) (R : Rules) (c : Capped (R .notes)) where
   again s = step k R (s .world) (s .lists)
 
   refused-same : (s : Left) → takes k (s .world) (s .lists) ≡ true → (r : Refusal) → again s .went ≡ W.Refused r → (again s .world ≡ s .world) × (again s .lists ≡ s .lists)
-  refused-same s t r = rw (step-is-inner k R (s .world) (s .lists) t) (refused-keeps k R (s .world) (s .lists) r)
+  refused-same s t r = rw (← step-taken k R (s .world) (s .lists) t) (refused-keeps k R (s .world) (s .lists) r)
 
   counts : (fuel : ℕ) (s : Left) → s .went ≡ W.On → Ready k (s .world) (s .lists) → Counts fuel (λ n. times n k R s) (run k R fuel (s .world) (s .lists))
   unfolding times Says
@@ -98,8 +97,8 @@ module _ (k : Mode) (R : Rules) (c : Capped (R .notes)) where
 pub runs-are-steps : RunsAreSteps
 runs-are-steps R c k fuel w l =
     record {
-      malformed = λ t. run-malformed k R w l t fuel;
-      halted = λ t h. run-halted k R w l t h fuel;
+      malformed = run-malformed k R w l fuel;
+      halted = run-halted k R w l fuel;
       counts = λ t h. counts k R c fuel (left W.On w l) refl record { taken = t; unhalted = h };
       dry = λ t h. dry k R c fuel (left W.On w l) record { taken = t; unhalted = h };
     }

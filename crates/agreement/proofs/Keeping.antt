@@ -1,20 +1,14 @@
 -- What normalising and the writes of each form keep, every instruction keeps, and every step and run.
 use Prim.Native.Nat.{ℕ, zero, suc}
 use mathlib.Core.Path.{_≡_, refl}
-use mathlib.Core.Bool.{Bool, _&&_}
+use mathlib.Core.Bool.{_&&_}
 use mathlib.Core.List.{List, [], _∷_}
 use lib.ListN.{length}
-use Rattle.memory.specs.Memory.{fetchOf}
-use Rattle.memory.specs.declared.Fetched.{Fetched}
-use Rattle.memory.specs.declared.Fetched.the-variants as F
 use Rattle.state.specs.Held.{Held, Whole}
 use Rattle.state.specs.Registers.{Registers, put, normalise}
 use Rattle.effect.specs.Notes.{Notes}
 use Rattle.effect.specs.Effects.{Seen, effect}
 use Rattle.effect.specs.Outcomes.{Effect, Outcome, Does, Refuses}
-use Rattle.words.specs.Words.{decodeIn}
-use Rattle.words.specs.declared.Decoded.{Decoded}
-use Rattle.words.specs.declared.Decoded.the-variants as D
 use Rattle.instruction.specs.declared.Instruction.{Instruction}
 use Rattle.execute.specs.World.{World, Stepped, refused, checksFor, does, done}
 use Rattle.deferred.specs.Limbs.{sumInto, subtracted}
@@ -23,13 +17,13 @@ use Rattle.execute.specs.Modes.{limbsIn, settle}
 use Rattle.execute.specs.Execute.{onward, finish, execute, admits}
 use Rattle.execute.specs.declared.Mode.{Mode}
 use Rattle.execute.specs.declared.Mode.the-variants.{Plain, Deferred}
-use Rattle.pending.specs.Pending.{Lists, listsFit}
-use Rattle.execute.specs.Rules.{Rules, obey}
+use Rattle.pending.specs.Pending.{Lists, listsFit, roomOf}
+use Rattle.execute.specs.Rules.{Rules}
 use Rattle.pending.specs.Pending.{lacks}
 use Rattle.pending.specs.declared.Room.{Room}
-use Rattle.step.specs.Step.{fetched, Left, left, stepOf, step, goesOn}
+use Rattle.step.specs.Step.{Left, left, stepOf, step, goesOn}
 use Rattle.run.specs.Run.{Answer, answer, after, following, loop, run}
-use Rattle.agreement.proofs.Cases.{cond-case, limb-cases}
+use Rattle.agreement.proofs.Cases.{cond-case, limb-cases, step-case}
 
 module _ (Q : Registers → Type 0) (N : Notes)
     (whole : (i : Instruction) (v : Seen) (m : List ℕ) (e : Effect) (R : Registers) → effect N i v m ≡ Does e → Q R → Q (put R (e .rd) (Whole (e .value)) (e .bound))) where
@@ -82,19 +76,9 @@ module _ (Q : Registers → Type 0) (N : Notes)
 
 module _ (Q : Registers → Type 0) (k : Mode) (R : Rules)
     (keeps : (room : Room) (i : Instruction) (w : World) → Q (w .registers) → Q ((execute k room (R .notes) i w) .world .registers)) where
-  obey-keeps : (room : Room) (d : Decoded) (w : World) → Q (w .registers) → Q ((obey k room R d w) .world .registers)
-  unfolding obey
-  obey-keeps room (D.Instruction i) w h = keeps room i w h
-  obey-keeps room (D.Refused r) w h = h
-
-  fetched-keeps : (room : Room) (f : Fetched) (w : World) → Q (w .registers) → Q ((fetched k room R f w) .world .registers)
-  unfolding fetched
-  fetched-keeps room (F.Word x) w h = obey-keeps room (decodeIn (R .number) x) w h
-  fetched-keeps room (F.Refused r) w h = h
-
   pub inner-step-keeps : (w : World) (l : Lists) → Q (w .registers) → Q ((stepOf k R w l) .world .registers)
   unfolding stepOf
-  inner-step-keeps w l h = fetched-keeps _ (fetchOf (w .memory) (w .pc)) w h
+  inner-step-keeps w l = step-case (λ (w : World) (s : Stepped). Q (w .registers) → Q (s .world .registers)) k (roomOf l) R (λ r w h. h) (keeps (roomOf l)) w
 
   pub step-keeps : (w : World) (l : Lists) → Q (w .registers) → Q ((step k R w l) .world .registers)
   unfolding step

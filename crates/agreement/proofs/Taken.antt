@@ -1,38 +1,26 @@
--- A step from what a run takes leaves what a run takes; one that goes on keeps the halt mark, and a refused one everything.
-use Prim.Native.Nat.{ℕ, zero, suc, _+_, _<_, _≤_}
-use mathlib.Core.Path.{_≡_, refl, sym, ap, _∙_}
-use mathlib.Core.Bool.{Bool, true, false, not, cond, _&&_}
+-- A step from what a run takes leaves what a run takes: 9 is tested at its start alone.
+use Prim.Native.Nat.{ℕ, zero, suc, _+_, _<_}
+use mathlib.Core.Path.{_≡_, refl}
+use mathlib.Core.Bool.{Bool, true, false, not}
 use mathlib.Core.List.{List, [], _∷_}
 use lib.ListN.{length, getD, set, length-set}
-use lib.Dec.{eqb, ltb, leb}
+use lib.Dec.{ltb}
 use native.Mathlib.Omega.{arith}
 use borrow.Author.Tests.{ltb-true, eq-eqb, le-leb}
-use Rattle.memory.specs.Memory.{fetchOf}
-use Rattle.memory.specs.declared.Fetched.{Fetched}
-use Rattle.memory.specs.declared.Fetched.the-variants as F
-use Rattle.refusal.specs.declared.Refusal.{Refusal}
 use Rattle.state.specs.Held.{Whole, kept, waits}
 use Rattle.state.specs.Registers.{Registers, place, put}
 use Rattle.state.specs.Formed.{allBelow, wellFormed, allWhole}
 use Rattle.effect.specs.Notes.{Notes}
-use Rattle.effect.specs.Outcomes.{Goes, Effect, Outcome, Does, Refuses}
-use Rattle.effect.specs.Outcomes as G
-use Rattle.words.specs.Words.{decodeIn}
-use Rattle.words.specs.declared.Decoded.{Decoded}
-use Rattle.words.specs.declared.Decoded.the-variants as D
 use Rattle.instruction.specs.declared.Instruction.{Instruction}
-use Rattle.execute.specs.World.{World, Stepped, refused, does, wentOf, marked, checksFor, done}
-use Rattle.execute.specs.Execute.{onward, wholly, finish, execute, admits}
-use Rattle.execute.specs.Modes.{limbsIn, settle}
-use Rattle.execute.specs.Rules.{Rules, obey}
+use Rattle.execute.specs.World.{World}
+use Rattle.execute.specs.Execute.{execute, admits}
+use Rattle.execute.specs.Rules.{Rules}
 use Rattle.execute.specs.declared.Mode.{Mode}
 use Rattle.execute.specs.declared.Mode.the-variants.{Plain, Deferred}
-use Rattle.execute.specs.declared.Went.{Went}
-use Rattle.execute.specs.declared.Went.the-variants as W
-use Rattle.pending.specs.Pending.{Lists, lists, Check, listsFit, roomOf, lacks, appended, listing}
+use Rattle.pending.specs.Pending.{Lists, lists, Check, listsFit, roomOf, appended, listing}
 use Rattle.pending.specs.declared.Room.{Room}
 use Rattle.pending.proofs.Lists.{fits-mean}
-use Rattle.step.specs.Step.{fetched, stepIn, stepOf, step}
+use Rattle.step.specs.Step.{stepIn, stepOf}
 use Rattle.agreement.specs.Keeping.{Capped}
 use Rattle.agreement.specs.Fuel.{takes}
 use Rattle.agreement.proofs.Cases.{cond-case}
@@ -79,7 +67,9 @@ admits-kept Deferred R c w l e = inner-step-keeps (λ S. wellFormed S ≡ true) 
 -- one more entry, where there is a place for it
 one-more : (v b pc : ℕ) (l : Lists) → l .count < length (l .values) → listsFit l ≡ true
     → listsFit (lists (l .count + 1) (set (l .values) (l .count) v) (set (l .bounds) (l .count) b) (set (l .pcs) (l .count) pc)) ≡ true
-one-more v b pc l h e = let t = fits-mean l e in simp length-set (rw (eq-eqb _ _ (t .0), eq-eqb _ _ (t .1)) (le-leb (l .count + 1) (length (l .values)) (omega arith)))
+one-more v b pc l h e =
+    let t = fits-mean l e in
+    simp length-set (rw (eq-eqb _ _ (t .0), eq-eqb _ _ (t .1)) (le-leb (l .count + 1) (length (l .values)) (omega arith)))
 
 appended-fits : (v b pc : ℕ) (l : Lists) → listsFit l ≡ true → listsFit (appended v b pc l) ≡ true
 unfolding appended
@@ -99,60 +89,3 @@ unfolding stepOf
 takes-kept k R c w l e =
     let t = both-true _ _ e in
     rw (admits-kept k R c w l (t .0)) (listing-fits ((stepIn k (roomOf l) R w) .checks) (w .pc) l (t .1))
-
--- ---- what a step keeps by how it went
-abbrev Keeps : World → Went → World → List Check → Type 0
-Keeps w W.On v cs = v .halted ≡ w .halted
-Keeps w W.Ebreak v cs = Unit {0}
-Keeps w W.Ecall v cs = Unit {0}
-Keeps w (W.Refused r) v cs = (v ≡ w) × (cs ≡ [])
-
-abbrev KeepsAll : World → Stepped → Type 0
-KeepsAll w s = Keeps w (s .went) (s .world) (s .checks)
-
-goes-keep : (g : Goes) (w v : World) (cs : List Check) → v .halted ≡ marked g (w .halted) → Keeps w (wentOf g) v cs
-goes-keep G.On w v cs e = e
-goes-keep G.Ebreak w v cs e = tt
-goes-keep G.Ecall w v cs e = tt
-
-done-keeps : (room : Room) (o : Outcome) (w : World) (R : Registers) → KeepsAll w (done room o w R)
-unfolding done
-done-keeps room (Refuses r) w R = (refl, refl)
-done-keeps room (Does e) w R =
-    cond-case (KeepsAll w) (lacks room (length (checksFor e))) (refused _ w) (does e (w .halted) R (w .memory))
-    (λ _. (refl, refl))
-    (λ _. goes-keep (e .goes) w _ _ refl)
-
-module _ (k : Mode) (room : Room) (R : Rules) where
-  execute-keeps : (i : Instruction) (w : World) → KeepsAll w (execute k room (R .notes) i w)
-  unfolding execute finish
-  execute-keeps i w =
-      let l = limbsIn k (R .notes) i (w .registers) in
-      cond-case (KeepsAll w) (l .waits) (onward w (l .registers)) (wholly room (R .notes) i w (settle k i (w .registers)))
-      (λ _. refl)
-      (λ _. done-keeps room _ w _)
-
-  obey-keeps : (d : Decoded) (w : World) → KeepsAll w (obey k room R d w)
-  unfolding obey
-  obey-keeps (D.Instruction i) w = execute-keeps i w
-  obey-keeps (D.Refused r) w = (refl, refl)
-
-  fetched-keeps : (f : Fetched) (w : World) → KeepsAll w (fetched k room R f w)
-  unfolding fetched
-  fetched-keeps (F.Word x) w = obey-keeps (decodeIn (R .number) x) w
-  fetched-keeps (F.Refused r) w = (refl, refl)
-
-module _ (k : Mode) (R : Rules) (w : World) (l : Lists) where
-  abbrev s : Stepped
-  s = stepIn k (roomOf l) R w
-
-  keeps : KeepsAll w s
-  keeps = fetched-keeps k (roomOf l) R (fetchOf (w .memory) (w .pc)) w
-
-  pub mark-kept : (stepOf k R w l) .went ≡ W.On → (stepOf k R w l) .world .halted ≡ w .halted
-  unfolding stepOf
-  mark-kept e = rw e at keeps
-
-  pub refused-keeps : (r : Refusal) → (stepOf k R w l) .went ≡ W.Refused r → (stepOf k R w l) .world ≡ w × (stepOf k R w l) .lists ≡ l
-  unfolding stepOf listing
-  refused-keeps r e = let t = rw e at keeps in (t .0, ap (λ (cs : List Check). listing cs (w .pc) l) (t .1))
