@@ -33,9 +33,9 @@ answers-are-steps k κs a x e = rw (leaves-run k κs a x e) (runs-are-steps docu
 -- three runs of which the first has the fuel of the two others, and the last begins where the second ends
 two-runs : (k : Mode) (f g h : ℕ) (w v u : World) (l m n : Lists) (a b c : Answer)
     → a ≡ run k documentRules f w l → b ≡ run k documentRules g v m → c ≡ run k documentRules h u n
-    → f ≡ g + h → w ≡ v → l ≡ m → u ≡ b .world → n ≡ b .lists → a ≡ continued b c
+    → g + h ≡ f → w ≡ v → l ≡ m → u ≡ b .world → n ≡ b .lists → a ≡ continued b c
 two-runs k f g h w v u l m n a b c p q r fuel same alike after listed =
-    rw (p, r, after, listed, q, fuel, same, alike) (runs-continue documentRules document-capped k g h v m)
+    rw (p, r, after, listed, q, ← fuel, same, alike) (runs-continue documentRules document-capped k g h v m)
 
 pub answers-continue : AnswersContinue
 answers-continue k κs ρs σs a b c x y z p q r = two-runs k _ _ _ _ _ _ _ _ _ _ _ _ (leaves-run k κs a x p) (leaves-run k ρs b y q) (leaves-run k σs c z r)

@@ -133,6 +133,6 @@ AnswersContinue =
     (k : Mode) (κs ρs σs : Lfts 4) (a : Args run_plain.signature κs) (b : Args run_plain.signature ρs) (c : Args run_plain.signature σs)
     → (x : Leaves run_plain.ended κs a) (y : Leaves run_plain.ended ρs b) (z : Leaves run_plain.ended σs c)
     → Allows run_plain.ended (toldBy k) κs a x → Allows run_plain.ended (toldBy k) ρs b y → Allows run_plain.ended (toldBy k) σs c z
-    → fuelGiven κs a ≡ fuelGiven ρs b + fuelGiven σs c → worldGiven κs a ≡ worldGiven ρs b → listsGiven κs a ≡ listsGiven ρs b
+    → fuelGiven ρs b + fuelGiven σs c ≡ fuelGiven κs a → worldGiven κs a ≡ worldGiven ρs b → listsGiven κs a ≡ listsGiven ρs b
     → worldGiven σs c ≡ (ranTo ρs b y) .world → listsGiven σs c ≡ (ranTo ρs b y) .lists
     → ranTo κs a x ≡ continued (ranTo ρs b y) (ranTo σs c z)
