@@ -1,20 +1,14 @@
 -- What normalising and the writes of each form keep, every instruction keeps, and every step and run.
 use Prim.Native.Nat.{ℕ, zero, suc}
 use mathlib.Core.Path.{_≡_, refl}
-use mathlib.Core.Bool.{Bool, _&&_}
+use mathlib.Core.Bool.{_&&_}
 use mathlib.Core.List.{List, [], _∷_}
 use lib.ListN.{length}
-use Rattle.memory.specs.Memory.{fetchOf}
-use Rattle.memory.specs.declared.Fetched.{Fetched}
-use Rattle.memory.specs.declared.Fetched.the-variants as F
 use Rattle.state.specs.Held.{Held, Whole}
 use Rattle.state.specs.Registers.{Registers, put, normalise}
 use Rattle.effect.specs.Notes.{Notes}
 use Rattle.effect.specs.Effects.{Seen, effect}
 use Rattle.effect.specs.Outcomes.{Effect, Outcome, Does, Refuses}
-use Rattle.words.specs.Words.{decodeIn}
-use Rattle.words.specs.declared.Decoded.{Decoded}
-use Rattle.words.specs.declared.Decoded.the-variants as D
 use Rattle.instruction.specs.declared.Instruction.{Instruction}
 use Rattle.execute.specs.World.{World, Stepped, refused, checksFor, does, done}
 use Rattle.deferred.specs.Limbs.{sumInto, subtracted}
@@ -23,14 +17,28 @@ use Rattle.execute.specs.Modes.{limbsIn, settleSources}
 use Rattle.execute.specs.Execute.{onward, finish, execute, admits}
 use Rattle.execute.specs.declared.Mode.{Mode}
 use Rattle.execute.specs.declared.Mode.the-variants.{Plain, Deferred}
-use Rattle.pending.specs.Pending.{Lists, listsFit}
-use Rattle.execute.specs.Rules.{Rules, obey}
+use Rattle.pending.specs.Pending.{Lists, listsFit, roomOf}
+use Rattle.execute.specs.Rules.{Rules}
 use Rattle.pending.specs.Pending.{lacks}
 use Rattle.pending.specs.declared.Room.{Room}
-use Rattle.step.specs.Step.{fetched, Left, left, stepOf, step}
-use Rattle.step.specs.Leg.{goesOn}
+use Rattle.step.specs.Step.{Left, left, stepOf, step, goesOn}
 use Rattle.run.specs.Run.{Answer, answer, preceded, following, loop, run}
-use Rattle.agreement.proofs.Cases.{cond-case, limb-cases}
+use Rattle.agreement.proofs.Cases.{cond-case, limb-cases, step-case}
+
+module _ (Q : Registers → Type 0) (N : Notes)
+    (whole : (i : Instruction) (v : Seen) (m : List ℕ) (e : Effect) (R : Registers) → effect N i v m ≡ Does e → Q R → Q (put R (e .rd) (Whole (e .value)) (e .bound))) where
+  done-keeps : (room : Room) (i : Instruction) (v : Seen) (o : Outcome) (w : World) (R : Registers) → effect N i v (w .memory) ≡ o → Q (w .registers) → Q R → Q ((done room o w R) .world .registers)
+  unfolding done
+  done-keeps room i v (Refuses r) w R p z h = z
+  done-keeps room i v (Does e) w R p z h =
+      cond-case (λ (s : Stepped). Q (s .world .registers)) (lacks room (length (checksFor e))) (refused _ w) (does e (w .halted) R (w .memory))
+      (λ _. z)
+      (λ _. whole i v (w .memory) e R p h)
+
+  -- the plain mode normalises nothing and has no limb forms
+  pub plain-keeps : (room : Room) (i : Instruction) (w : World) → Q (w .registers) → Q ((execute Plain room N i w) .world .registers)
+  unfolding execute finish limbsIn settleSources
+  plain-keeps room i w h = done-keeps room i _ _ w _ refl h h
 
 module _ (Q : Registers → Type 0) (N : Notes)
     (normal : (n : ℕ) (R : Registers) → Q R → Q (normalise n R))
@@ -58,37 +66,19 @@ module _ (Q : Registers → Type 0) (N : Notes)
       (λ _. h)
       i
 
-  done-keeps : (room : Room) (i : Instruction) (v : Seen) (o : Outcome) (w : World) (R : Registers) → effect N i v (w .memory) ≡ o → Q (w .registers) → Q R → Q ((done room o w R) .world .registers)
-  unfolding done
-  done-keeps room i v (Refuses r) w R p z h = z
-  done-keeps room i v (Does e) w R p z h =
-      cond-case (λ (s : Stepped). Q (s .world .registers)) (lacks room (length (checksFor e))) (refused _ w) (does e (w .halted) R (w .memory))
-      (λ _. z)
-      (λ _. whole i v (w .memory) e R p h)
-
   pub execute-keeps : (k : Mode) (room : Room) (i : Instruction) (w : World) → Q (w .registers) → Q ((execute k room N i w) .world .registers)
   unfolding execute finish
   execute-keeps k room i w h =
       let l = limbsIn k N i (w .registers) in
       cond-case (λ (s : Stepped). Q (s .world .registers)) (l .waits) (onward w (l .registers)) _
       (λ _. limbs-keep k i (w .registers) h)
-      (λ _. done-keeps room i _ _ w _ refl h (settle-keeps k i (w .registers) h))
+      (λ _. done-keeps Q N whole room i _ _ w _ refl h (settle-keeps k i (w .registers) h))
 
 module _ (Q : Registers → Type 0) (k : Mode) (R : Rules)
     (keeps : (room : Room) (i : Instruction) (w : World) → Q (w .registers) → Q ((execute k room (R .notes) i w) .world .registers)) where
-  obey-keeps : (room : Room) (d : Decoded) (w : World) → Q (w .registers) → Q ((obey k room R d w) .world .registers)
-  unfolding obey
-  obey-keeps room (D.Instruction i) w h = keeps room i w h
-  obey-keeps room (D.Refused r) w h = h
-
-  fetched-keeps : (room : Room) (f : Fetched) (w : World) → Q (w .registers) → Q ((fetched k room R f w) .world .registers)
-  unfolding fetched
-  fetched-keeps room (F.Word x) w h = obey-keeps room (decodeIn (R .number) x) w h
-  fetched-keeps room (F.Refused r) w h = h
-
   pub inner-step-keeps : (w : World) (l : Lists) → Q (w .registers) → Q ((stepOf k R w l) .world .registers)
   unfolding stepOf
-  inner-step-keeps w l h = fetched-keeps _ (fetchOf (w .memory) (w .pc)) w h
+  inner-step-keeps w l = step-case (λ (w : World) (s : Stepped). Q (w .registers) → Q (s .world .registers)) k (roomOf l) R (λ r w h. h) (keeps (roomOf l)) w
 
   pub step-keeps : (w : World) (l : Lists) → Q (w .registers) → Q ((step k R w l) .world .registers)
   unfolding step

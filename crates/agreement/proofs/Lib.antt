@@ -12,3 +12,9 @@ pub mod Runs
 pub mod Bytes
 pub mod Calls
 pub mod Contracts
+pub mod Taken
+pub mod Went
+pub mod Ready
+pub mod Fuel
+pub mod Iterated
+pub mod Answers

@@ -25,8 +25,7 @@ use Rattle.pending.specs.Pending.{Lists, Check, listsFit, roomAt, listing, noLi
 use Rattle.pending.proofs.Lists.{unlent-stays}
 use Rattle.pending.specs.declared.Room.the-variants.{Unlent}
 use Rattle.execute.specs.Rules.{Rules, obey}
-use Rattle.step.specs.Step.{fetched, Left, left, stepOf}
-use Rattle.step.specs.Leg.{goesOn}
+use Rattle.step.specs.Step.{fetched, Left, left, stepOf, goesOn}
 use Rattle.run.specs.Run.{Answer, answer, preceded, following, loop, run}
 use Rattle.agreement.specs.Reading.{noMarks, readAll, readWorld, unchecked, readStep, Sized, readAnswer}
 use Rattle.agreement.specs.Keeping.{Formed}

@@ -6,10 +6,13 @@ use denote.Ref.{now}
 use denote.Triple.Entry.{Args, Res}
 use denote.Triple.Clauses.{Ended, Lasts, AtExit, atExit}
 use Rattle.execute.specs.World.{World, worldOf}
+use Rattle.execute.specs.declared.Mode.{Mode}
+use Rattle.execute.specs.declared.Mode.the-variants.{Plain, Deferred}
 use Rattle.pending.specs.Pending.{Lists, lists}
 use Rattle.run.specs.Run.{Answer, ran}
 use Rattle.host.specs.Call.{Called, called}
 use Rattle.run.proofs.run_plain
+use Rattle.run.proofs.run_deferred
 use Rattle.host.proofs.zkir_run
 
 -- T is a function's signature, with what of its parameters a caller sees once the call is over
@@ -40,6 +43,11 @@ module _ (κs : Lfts 4) (a : Args run_plain.signature κs) where
   -- and what it leaves
   abbrev pub ranTo : Leaves run_plain.ended κs a → Answer
   ranTo x = ran (x .0) (x .1 .1 .1 .0) (x .1 .1 .1 .1 .0) (x .1 .1 .1 .1 .1 .0) (x .1 .1 .1 .1 .1 .1 .0)
+
+-- what the contract of each mode's run tells
+unfoldable pub toldBy : Mode → Telling run_plain.ended
+toldBy Plain = run_plain.Reads.Learnt
+toldBy Deferred = run_deferred.Reads.Learnt
 
 -- the host's call: state, memory and answer bytes, fuel, and then the mode
 pub record CallGiven : Type 0 where

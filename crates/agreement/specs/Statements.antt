@@ -1,5 +1,5 @@
 -- What this crate proves, in the words in which it is asked for.
-use Prim.Native.Nat.{ℕ}
+use Prim.Native.Nat.{ℕ, _+_, _≤_}
 use mathlib.Core.Path.{_≡_}
 use mathlib.Core.Bool.{Bool, true, false}
 use mathlib.Core.List.{List}
@@ -18,7 +18,7 @@ use Rattle.execute.specs.declared.Mode.the-variants.{Plain, Deferred}
 use Rattle.pending.specs.Pending.{Lists, noLists}
 use Rattle.pending.specs.declared.Room.{Room}
 use Rattle.pending.specs.declared.Room.the-variants.{Unlent}
-use Rattle.execute.specs.Rules.{Rules}
+use Rattle.execute.specs.Rules.{Rules, documentRules}
 use Rattle.step.specs.Step.{step}
 use Rattle.run.specs.Run.{run}
 use Rattle.run.proofs.run_plain
@@ -27,8 +27,9 @@ use Rattle.layout.specs.Layout.{stateIn}
 use Rattle.host.specs.Call.{callTaken, callOf}
 use Rattle.host.proofs.zkir_run
 use Rattle.agreement.specs.Reading.{readWorld, unchecked, readStep, readAnswer, readCall, Sized}
-use Rattle.agreement.specs.Contracts.{Leaves, Allows, worldGiven, fuelGiven, listsGiven, ranTo, callGiven, modeGiven, calledTo}
+use Rattle.agreement.specs.Contracts.{Leaves, Allows, toldBy, worldGiven, fuelGiven, listsGiven, ranTo, callGiven, modeGiven, calledTo}
 use Rattle.agreement.specs.Keeping.{Capped, Normalised}
+use Rattle.agreement.specs.Fuel.{BySteps, continued}
 
 -- For every memory, fuel and state with no accumulated register, and no list lent, the plain and the deferred run agree on the stop with its
 -- particulars, the steps, the pc, the halt mark, the memory, the bounds and the values of all registers.
@@ -101,3 +102,37 @@ RunsKeep =
 abbrev pub NormalisingIsExact : Type 0
 NormalisingIsExact =
     (R : Registers) (n low high : ℕ) → wellFormed R ≡ true → holds R n ≡ Limbs low high → Normalised R n low high
+
+-- "never more than the fuel": of every run, refused ones too.
+abbrev pub RunsWithinFuel : Type 0
+RunsWithinFuel = (R : Rules) (k : Mode) (fuel : ℕ) (w : World) (l : Lists) → (run k R fuel w l) .steps ≤ fuel
+
+-- A run's steps are the defined steps that were completed; Ebreak and Ecall count, a refused one doesn't.
+abbrev pub RunsAreSteps : Type 0
+RunsAreSteps = (R : Rules) → Capped (R .notes) → (k : Mode) (fuel : ℕ) (w : World) (l : Lists) → BySteps k R fuel w l (run k R fuel w l)
+
+-- A run of f + g fuel is the run of f and then, where that stopped on fuel, the run of g from there.
+abbrev pub RunsContinue : Type 0
+RunsContinue =
+    (R : Rules) → Capped (R .notes) → (k : Mode) (f g : ℕ) (w : World) (l : Lists)
+    → let a = run k R f w l in run k R (f + g) w l ≡ continued a (run k R g (a .world) (a .lists))
+
+-- All three of the code: of whatever calls of `run_plain` or of `run_deferred` leave, as far as its own contract allows it.
+abbrev pub AnswersWithinFuel : Type 0
+AnswersWithinFuel =
+    (k : Mode) (κs : Lfts 4) (a : Args run_plain.signature κs) (x : Leaves run_plain.ended κs a) → Allows run_plain.ended (toldBy k) κs a x
+    → (ranTo κs a x) .steps ≤ fuelGiven κs a
+
+abbrev pub AnswersAreSteps : Type 0
+AnswersAreSteps =
+    (k : Mode) (κs : Lfts 4) (a : Args run_plain.signature κs) (x : Leaves run_plain.ended κs a) → Allows run_plain.ended (toldBy k) κs a x
+    → BySteps k documentRules (fuelGiven κs a) (worldGiven κs a) (listsGiven κs a) (ranTo κs a x)
+
+abbrev pub AnswersContinue : Type 0
+AnswersContinue =
+    (k : Mode) (κs ρs σs : Lfts 4) (a : Args run_plain.signature κs) (b : Args run_plain.signature ρs) (c : Args run_plain.signature σs)
+    → (x : Leaves run_plain.ended κs a) (y : Leaves run_plain.ended ρs b) (z : Leaves run_plain.ended σs c)
+    → Allows run_plain.ended (toldBy k) κs a x → Allows run_plain.ended (toldBy k) ρs b y → Allows run_plain.ended (toldBy k) σs c z
+    → fuelGiven ρs b + fuelGiven σs c ≡ fuelGiven κs a → worldGiven κs a ≡ worldGiven ρs b → listsGiven κs a ≡ listsGiven ρs b
+    → worldGiven σs c ≡ (ranTo ρs b y) .world → listsGiven σs c ≡ (ranTo ρs b y) .lists
+    → ranTo κs a x ≡ continued (ranTo ρs b y) (ranTo σs c z)

@@ -25,8 +25,8 @@ use Rattle.pending.specs.Pending.{Lists, Check, checksOf, listsFit, roomOf, lis
 use Rattle.pending.specs.declared.Room.{Room}
 use Rattle.pending.specs.declared.Room.the-variants.{Unlent, Left}
 use Rattle.pending.proofs.Lists.{unlent-stays}
-use Rattle.step.specs.Step.{left, stepIn, stepOf}
-use Rattle.step.specs.Leg.{Leg, leg, later, goesOn, counted, unlisted, legIn, gone}
+use Rattle.step.specs.Step.{left, stepIn, stepOf, goesOn, counted}
+use Rattle.step.specs.Leg.{Leg, leg, later, unlisted, legIn, gone}
 use Rattle.step.specs.declared.leg.Gone.{Gone}
 use Rattle.step.proofs.Legs.{leg-within, leg-moves}
 use Rattle.run.specs.Run.{Answer, answer, preceded, stopOf, following, loop, run}

@@ -10,7 +10,7 @@ use Rattle.execute.specs.World.{worldOf}
 use Rattle.execute.specs.Rules.{rulesOf}
 use Rattle.execute.specs.declared.Choices.{Choices}
 use Rattle.pending.specs.Pending.{Lists}
-use Rattle.step.specs.Leg.{goesOn}
+use Rattle.step.specs.Step.{goesOn}
 use Rattle.step.specs.declared.leg.Gone.{Gone}
 use Rattle.run.specs.Run.{Answer, answer, preceded, stopOf, loop}
 use Rattle.run.specs.declared.legs.Going.{Going}

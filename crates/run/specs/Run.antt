@@ -12,8 +12,7 @@ use Rattle.execute.specs.declared.Went.{Went}
 use Rattle.execute.specs.declared.Went.the-variants as W
 use Rattle.pending.specs.Pending.{Lists, lists, listsFit}
 use Rattle.execute.specs.Rules.{Rules}
-use Rattle.step.specs.Step.{Left, stepOf}
-use Rattle.step.specs.Leg.{goesOn, counted}
+use Rattle.step.specs.Step.{Left, stepOf, goesOn, counted}
 use Rattle.run.specs.declared.Ran.{Ran}
 
 pub record Answer : Type 0 where

@@ -19,8 +19,8 @@ use Rattle.pending.specs.Pending.{Lists, Check, roomOf, listing}
 use Rattle.pending.specs.declared.Room.{Room}
 use Rattle.pending.specs.declared.Room.the-variants.{Unlent, Left}
 use Rattle.pending.proofs.Lists.{unlent-stays}
-use Rattle.step.specs.Step.{left, stepIn, stepOf}
-use Rattle.step.specs.Leg.{Leg, leg, later, goesOn, counted, unlisted, passing, legIn}
+use Rattle.step.specs.Step.{left, stepIn, stepOf, goesOn, counted}
+use Rattle.step.specs.Leg.{Leg, leg, later, unlisted, passing, legIn}
 
 -- a step of a loop that may go on
 pub one-more : (fuel n : ℕ) → n < fuel → n + 1 ≤ fuel
@@ -77,7 +77,7 @@ pub step-is-leg : (k : Mode) (R : Rules) (w : World) (l : Lists) (a : Leg) → a
 unfolding legIn stepOf
 step-is-leg k R w l a e = let s = stepIn k (roomOf l) R w in one-step-leg k (roomOf l) R l (w .pc) (s .went) (s .checks) (s .world) a refl e
 
-at-most-one : (g : Went) → counted g ≤ 1
+pub at-most-one : (g : Went) → counted g ≤ 1
 unfolding counted
 at-most-one W.On = omega arith
 at-most-one W.Ebreak = omega arith

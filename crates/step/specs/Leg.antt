@@ -11,22 +11,8 @@ use Rattle.execute.specs.declared.Went.the-variants as W
 use Rattle.pending.specs.Pending.{Check, checksOf}
 use Rattle.pending.specs.declared.Room.{Room}
 use Rattle.pending.specs.declared.Room.the-variants.{Unlent, Left}
-use Rattle.step.specs.Step.{stepIn}
+use Rattle.step.specs.Step.{stepIn, goesOn, counted}
 use Rattle.step.specs.declared.leg.Gone.{Gone}
-
--- "A run stops on fuel, Ebreak, Ecall or a refusal": whether a step goes on
-unfoldable pub goesOn : Went → Bool
-goesOn W.On = true
-goesOn W.Ebreak = false
-goesOn W.Ecall = false
-goesOn (W.Refused r) = false
-
--- "Ebreak and Ecall count, a refused one doesn't"
-unfoldable pub counted : Went → ℕ
-counted W.On = 1
-counted W.Ebreak = 1
-counted W.Ecall = 1
-counted (W.Refused r) = 0
 
 -- how the last step went, the steps, the world after them, the checks that the last one asks for, and its pc
 pub record Leg : Type 0 where

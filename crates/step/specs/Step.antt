@@ -1,5 +1,5 @@
 -- A single step: the word at the pc is fetched, decoded and executed.
-use mathlib.Core.Bool.{cond, _&&_}
+use mathlib.Core.Bool.{Bool, true, false, cond, _&&_}
 use mathlib.Core.List.{List}
 use Prim.Native.Nat.{ℕ}
 use Rattle.refusal.specs.Stops.{refusalOf}
@@ -43,6 +43,20 @@ stepOf k R w l =
 -- 9 first; the mark is ignored
 unfoldable pub step : Mode → Rules → World → Lists → Left
 step k R w l = cond (admits k (w .registers) && listsFit l) (stepOf k R w l) (left (W.Refused (refusalOf 9 0)) w l)
+
+-- "A run stops on fuel, Ebreak, Ecall or a refusal": whether a step goes on
+unfoldable pub goesOn : Went → Bool
+goesOn W.On = true
+goesOn W.Ebreak = false
+goesOn W.Ecall = false
+goesOn (W.Refused r) = false
+
+-- "Ebreak and Ecall count, a refused one doesn't"
+unfoldable pub counted : Went → ℕ
+counted W.On = 1
+counted W.Ebreak = 1
+counted W.Ecall = 1
+counted (W.Refused r) = 0
 
 -- what the code gives back, with what was lent to it
 abbrev pub oneStep : OneStep → List ℕ → List ℕ → List ℕ → List ℕ → Left

@@ -17,8 +17,8 @@ ghost use Rattle.pending.specs.Pending.{checksOf};
 ghost use Rattle.execute.specs.World.{worldOf, advanced};
 ghost use Rattle.execute.specs.Rules.{rulesOf};
 ghost use Rattle.execute.specs.Starts.{started};
-ghost use Rattle.step.specs.Step.{stepIn};
-ghost use Rattle.step.specs.Leg.{goesOn, counted, unlisted, legIn, gone};
+ghost use Rattle.step.specs.Step.{stepIn, goesOn, counted};
+ghost use Rattle.step.specs.Leg.{unlisted, legIn, gone};
 
 // How the last step went, the steps, the checks that the last one asks for, and its pc.
 pub struct Gone {

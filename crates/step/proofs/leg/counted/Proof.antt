@@ -1,4 +1,4 @@
-use Rattle.step.specs.Leg.{counted}
+use Rattle.step.specs.Step.{counted}
 use native.Mathlib.Omega.{arith}
 use Rattle.step.proofs.leg.counted.Statement.{statement}
 use Rattle.step.proofs.leg.counted.Tie as tie

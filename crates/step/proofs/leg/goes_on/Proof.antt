@@ -1,4 +1,4 @@
-use Rattle.step.specs.Leg.{goesOn}
+use Rattle.step.specs.Step.{goesOn}
 use Rattle.step.proofs.leg.goes_on.Statement.{statement}
 use Rattle.step.proofs.leg.goes_on.Tie as tie
 
