@@ -4,6 +4,9 @@ pub mod Keeping
 pub mod Formed
 pub mod Capped
 pub mod Sound
+pub mod Limbs
+pub mod Refused
+pub mod RefusedCalls
 pub mod Reading
 pub mod Sized
 pub mod Agree

@@ -1,4 +1,5 @@
 pub mod Reading
 pub mod Keeping
 pub mod Contracts
+pub mod ByHand
 pub mod Statements
