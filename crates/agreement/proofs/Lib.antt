@@ -5,6 +5,7 @@ pub mod Formed
 pub mod Capped
 pub mod Sound
 pub mod Limbs
+pub mod Held
 pub mod Refused
 pub mod RefusedCalls
 pub mod Reading

@@ -39,6 +39,10 @@ readStep s = stepped (s .went) (readWorld (s .world)) []
 abbrev pub Sized : Registers → Type 0
 Sized R = 16 ≤ length (R .accumulated)
 
+-- and a number
+abbrev pub Full : Registers → Type 0
+Full R = Sized R × (16 ≤ length (R .values))
+
 -- "no list lent"
 abbrev pub noLists : Lists
 noLists = lists 0 [] [] []

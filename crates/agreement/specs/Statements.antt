@@ -1,17 +1,19 @@
 -- What this crate proves, in the words in which it is asked for.
-use Prim.Native.Nat.{ℕ, _≤_}
+use Prim.Native.Nat.{ℕ, _-_, _%_, _≤_}
 use mathlib.Core.Path.{_≡_}
-use mathlib.Core.Bool.{Bool, true, false}
+use mathlib.Core.Logic.{_≢_}
+use mathlib.Core.Bool.{Bool, true, false, cond}
 use mathlib.Core.List.{List}
 use contract.Lifetimes.{Lfts}
 use denote.Triple.Entry.{Args}
 use borrow.Fn.Kinds.{GoodsP}
 use Rattle.refusal.specs.declared.Refusal.{Refusal}
-use Rattle.state.specs.Held.{Limbs}
+use Rattle.state.specs.Held.{Held, Limbs, lowOf, highOf, settled}
 use Rattle.state.specs.Registers.{Registers, holds}
 use Rattle.state.specs.Formed.{wellFormed, allWhole, registersOf}
 use Rattle.effect.specs.Notes.{Notes}
 use Rattle.instruction.specs.declared.Instruction.{Instruction}
+use Rattle.deferred.specs.Limbs.{sumOf, fits, sumInto, subtracted}
 use Rattle.execute.specs.World.{World}
 use Rattle.execute.specs.Execute.{execute, admits}
 use Rattle.execute.specs.declared.Mode.{Mode}
@@ -34,7 +36,7 @@ use Rattle.host.proofs.zkir_run
 use Rattle.checked.proofs.step as checked·step
 use Rattle.lent.proofs.step_in_place
 use Rattle.lent.proofs.exported.zkir_step
-use Rattle.agreement.specs.Reading.{readWorld, unchecked, readStep, readAnswer, readCall, noLists, Sized}
+use Rattle.agreement.specs.Reading.{readWorld, unchecked, readStep, readAnswer, readCall, noLists, Sized, Full}
 use Rattle.agreement.specs.Contracts.{Leaves, Allows, worldGiven, fuelGiven, listsGiven, ranTo, callGiven, modeGiven, calledTo}
 use Rattle.agreement.specs.Contracts.{worldStepped, listsStepped, steppedTo, worldExecuted, executedTo}
 use Rattle.agreement.specs.ByHand.{Says, steps, recordsGiven, recordsAfter, stepsInPlace, placeGiven, placeAfter, stepsLent, lentGiven, lentAfter}
@@ -118,6 +120,18 @@ abbrev pub RunsKeepLimbs : Type 0
 RunsKeepLimbs =
     (k : Mode) (fuel : ℕ) (w : World) (l : Lists) → wellFormed (w .registers) ≡ true
     → let after = (run k documentRules fuel w l) .world .registers in (wellFormed after ≡ true) × SmallLimbs after
+
+-- As a register is kept, no low limb can be read as 2^30 or more. So besides, of every register but R0: what Add and Addi, and Sub, compute on
+-- limbs is what rd then holds.
+abbrev pub SumsAreHeld : Type 0
+SumsAreHeld =
+    (rd : ℕ) (x y : Held) (bound : ℕ) (R T : Registers) → Full R → Full T → rd % 16 ≢ 0
+    → holds (sumInto rd x y bound R T) rd ≡ cond (fits x y) (sumOf x y) (sumOf (settled x) (settled y))
+
+abbrev pub DifferencesAreHeld : Type 0
+DifferencesAreHeld =
+    (N : Notes) (rd rs1 rs2 : ℕ) (R : Registers) → Full R → rd % 16 ≢ 0
+    → holds (subtracted N rd rs1 rs2 R) rd ≡ Limbs (lowOf (holds R rs1) - lowOf (holds R rs2)) (highOf (holds R rs1) - highOf (holds R rs2))
 
 -- Of the code: the state that a call of `step`, of `run_deferred` and of `run_plain` leaves, as far as their own contracts allow it.
 abbrev pub StepCallsKeepLimbs : Type 0
