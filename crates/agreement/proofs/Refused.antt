@@ -1,7 +1,7 @@
 -- A refused step changes nothing: of the definitions.
 use Prim.Native.Nat.{ℕ}
-use mathlib.Core.Path.{_≡_, refl, ap, _∙_}
-use mathlib.Core.Bool.{Bool, _&&_}
+use mathlib.Core.Path.{_≡_, refl}
+use mathlib.Core.Bool.{_&&_}
 use mathlib.Core.List.{List, []}
 use lib.ListN.{length}
 use Rattle.refusal.specs.declared.Refusal.{Refusal}
@@ -12,7 +12,7 @@ use Rattle.state.specs.Registers.{Registers}
 use Rattle.words.specs.Words.{decodeIn, fitsOf}
 use Rattle.words.specs.declared.Decoded.{Decoded}
 use Rattle.words.specs.declared.Decoded.the-variants as D
-use Rattle.effect.specs.Outcomes.{Goes, Effect, Outcome, Does, Refuses}
+use Rattle.effect.specs.Outcomes.{Goes, Outcome, Does, Refuses}
 use Rattle.effect.specs.Outcomes as G
 use Rattle.pending.specs.Pending.{Lists, Check, listsFit, roomOf, lacks, listing}
 use Rattle.pending.specs.declared.Room.{Room}
@@ -24,7 +24,7 @@ use Rattle.execute.specs.Rules.{Rules, obey}
 use Rattle.execute.specs.declared.Mode.{Mode}
 use Rattle.execute.specs.declared.Went.the-variants as W
 use Rattle.given.specs.Given.{executeOne}
-use Rattle.step.specs.Step.{fetched, stepIn, Left, left, stepOf, step}
+use Rattle.step.specs.Step.{fetched, Left, left, stepOf, step}
 use Rattle.agreement.specs.Keeping.{Restores, Undoes}
 use Rattle.agreement.specs.Statements.{RefusedStepsRestore, RefusedInstructionsUndo, RefusedGivenUndo}
 use Rattle.agreement.proofs.Cases.{cond-case}

@@ -42,25 +42,25 @@ given-calls-undo κs a x p =
     subst⁻¹ (λ (s : Stepped). Undoes s w) p (refused-given-undo (a .0 .mode) (rulesOf (a .0) .notes) (a .1 .0) w)
 
 -- ---- over records
-same-kept : {S : Type 0} (s t : S) (m m′ : List ℕ) (k l : List Pending) (n c : ℕ) → s ≡ t → m ≡ m′ → listed n k ≡ listed c l → kept s m k n ≡ kept t m′ l c
-same-kept s t m m′ k l n c p q r = let e = listed-injective n c k l r in rw (p, q, e .0, e .1)
+same-kept : {S : Type 0} {s t : S} {m m′ : List ℕ} {k l : List Pending} {n c : ℕ} → s ≡ t → m ≡ m′ → listed n k ≡ listed c l → kept s m k n ≡ kept t m′ l c
+same-kept {k = k} {l = l} {n = n} {c = c} p q r = let e = listed-injective n c k l r in rw (p, q, e .0, e .1)
 
-same-records : (g : Went) (s t : State) (m m′ : List ℕ) (k l : List Pending) (n c : ℕ)
+same-records : {g : Went} {s t : State} {m m′ : List ℕ} {k l : List Pending} {n c : ℕ}
     → Restores (left g (worldOf s m) (listed n k)) (worldOf t m′) (listed c l) → (r : Refusal) → g ≡ W.Refused r → kept s m k n ≡ kept t m′ l c
-same-records g s t m m′ k l n c h r e =
+same-records h r e =
     let x = h r e in
-    same-kept s t m m′ k l n c (ap stateOf (x .0)) (ap (λ (w : World). w .memory) (x .0)) (x .1)
+    same-kept (ap stateOf (x .0)) (ap (λ (w : World). w .memory) (x .0)) (x .1)
 
 pub record-steps-restore : RecordStepsRestore
 record-steps-restore = (
   λ M 𝓤 H A m run κs a g r e. refl,
-  λ κs a x p. same-records _ _ _ _ _ _ _ _ _ (restores (a .0 .mode) (rulesOf (a .0)) _ _ p),
+  λ κs a x p. same-records (restores (a .0 .mode) (rulesOf (a .0)) _ _ p),
 )
 
 pub steps-in-place-restore : StepsInPlaceRestore
 steps-in-place-restore = (
   λ M 𝓤 H A m run κs a g r e. refl,
-  λ κs a x p. same-records _ _ _ _ _ _ _ _ _ (restores (a .1 .0 .mode) (rulesOf (a .1 .0)) _ _ p),
+  λ κs a x p. same-records (restores (a .1 .0 .mode) (rulesOf (a .1 .0)) _ _ p),
 )
 
 -- ---- over a record of numbers: 1 to 9 is the code of a refusal
@@ -92,5 +92,5 @@ lent-steps-restore = (
       let b = lentGiven κs a in
       let l = listed (b .count) (b .list) in
       let t = subst⁻¹ (λ (s : L.Stepped). Stays (b .state) (b .memory) l s) p (lent-stays (a .1 .1 .1 .1 .0) (b .state) (b .memory) l) low high in
-      same-kept _ _ _ _ _ _ _ _ (t .0) (t .1) (t .2),
+      same-kept (t .0) (t .1) (t .2),
 )
