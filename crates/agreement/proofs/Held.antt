@@ -9,7 +9,7 @@ use native.Mathlib.Omega.{arith}
 use Rattle.state.specs.Held.{Held, lowOf, highOf, heldOf, kept, waits, settled}
 use Rattle.state.specs.Registers.{Registers, holds, place, put}
 use Rattle.state.proofs.Normal.{held-kept}
-use Rattle.deferred.specs.Limbs.{sumOf, fits, sumInto}
+use Rattle.deferred.specs.Limbs.{sumOf, sumFits, sumInto}
 use Rattle.deferred.proofs.Waiting.{fits-true}
 use Rattle.agreement.specs.Reading.{Full}
 use Rattle.agreement.specs.Statements.{SumsAreHeld, DifferencesAreHeld}
@@ -25,7 +25,7 @@ put-held : (R : Registers) (rd : ℕ) (h : Held) (b : ℕ) → Full R → rd % 1
 put-held R rd h b f z s = placed (rd % 16) (kept h) (waits h) b R z (omega (arith, f .0)) (omega (arith, f .1)) ∙ held-kept h s
 
 -- by the test that decides which sum is written
-sum-held : (rd : ℕ) (x y : Held) (b : ℕ) (R T : Registers) → Full R → Full T → rd % 16 ≢ 0 → (t : Bool) → fits x y ≡ t
+sum-held : (rd : ℕ) (x y : Held) (b : ℕ) (R T : Registers) → Full R → Full T → rd % 16 ≢ 0 → (t : Bool) → sumFits x y ≡ t
     → holds (cond t (put R rd (sumOf x y) b) (put T rd (sumOf (settled x) (settled y)) b)) rd ≡ cond t (sumOf x y) (sumOf (settled x) (settled y))
 unfolding lowOf
 sum-held rd x y b R T f g z true e = put-held R rd (sumOf x y) b f z ((fits-true (lowOf x + lowOf y) (highOf x + highOf y) e) .0)
@@ -33,7 +33,7 @@ sum-held rd x y b R T f g z false e = put-held T rd (sumOf (settled x) (settled 
 
 pub sums-are-held : SumsAreHeld
 unfolding sumInto
-sums-are-held rd x y b R T f g z = sum-held rd x y b R T f g z (fits x y) refl
+sums-are-held rd x y b R T f g z = sum-held rd x y b R T f g z (sumFits x y) refl
 
 pub differences-are-held : DifferencesAreHeld
 unfolding lowOf

@@ -19,7 +19,7 @@ use Rattle.host.specs.Call.{stateOf, modeOf}
 use Rattle.checks.specs.Records.{listed}
 use Rattle.checks.specs.declared.Pending.{Pending}
 use Rattle.checks.proofs.Listed.{listed-injective}
-use Rattle.lent.specs.Lent.{lentLeft, laid, stateIn, served, after, stepLent}
+use Rattle.lent.specs.Lent.{lentStep, laid, stateOfLent, lentServed, recordAfter, stepLent}
 use Rattle.lent.specs.Lent as L
 use Rattle.lent.specs.declared.exported.Lent.{Lent}
 use Rattle.agreement.specs.Contracts.{worldStepped, listsStepped, worldExecuted}
@@ -67,11 +67,11 @@ steps-in-place-restore = (
 abbrev Stays : Lent → List ℕ → Lists → L.Stepped → Type 0
 Stays r m l s = 1 ≤ s .answer .code → s .answer .code ≤ 9 → (s .state ≡ r) × (s .memory ≡ m) × (s .lists ≡ l)
 
-served-stays : (r : Lent) (w : World) (l : Lists) (s : Left) → Restores s w l → Stays r (w .memory) l (served r s)
-unfolding after stopOf
+served-stays : (r : Lent) (w : World) (l : Lists) (s : Left) → Restores s w l → Stays r (w .memory) l (lentServed r s)
+unfolding recordAfter stopOf
 served-stays r w l s h = by (s .went) refl
   where
-    by : (g : Went) → s .went ≡ g → Stays r (w .memory) l (served r s)
+    by : (g : Went) → s .went ≡ g → Stays r (w .memory) l (lentServed r s)
     by W.On e = rw e (λ low high. absurd (omega (arith, low)))
     by W.Ebreak e = rw e (λ low high. absurd (omega (arith, high)))
     by W.Ecall e = rw e (λ low high. absurd (omega (arith, high)))
@@ -80,8 +80,8 @@ served-stays r w l s h = by (s .went) refl
 lent-stays : (mode : ℕ) (r : Lent) (m : List ℕ) (l : Lists) → Stays r m l (stepLent mode r m l)
 unfolding stepLent
 lent-stays mode r m l =
-    let w = worldOf (stateIn r) m in
-    cond-case (Stays r m l) (leb mode 1 && laid r) (served r (step (modeOf mode) documentRules w l)) (lentLeft _ r m l)
+    let w = worldOf (stateOfLent r) m in
+    cond-case (Stays r m l) (leb mode 1 && laid r) (lentServed r (step (modeOf mode) documentRules w l)) (lentStep _ r m l)
     (λ _. served-stays r w l _ (refused-steps-restore (modeOf mode) documentRules w l))
     (λ _ low high. (refl, refl, refl))
 

@@ -23,7 +23,7 @@ use Rattle.checks.specs.Records.{listed}
 use Rattle.checks.specs.declared.Pending.{Pending}
 use Rattle.checked.specs.Machine.{steppedOver}
 use Rattle.checked.proofs.step as checked·step
-use Rattle.lent.specs.Lent.{lentLeft, stepLent}
+use Rattle.lent.specs.Lent.{lentStep, stepLent}
 use Rattle.lent.specs.declared.exported.Lent.{Lent}
 use Rattle.lent.proofs.step_in_place
 use Rattle.lent.proofs.exported.zkir_step
@@ -77,7 +77,7 @@ module _ (κs : Lfts 3) (a : Args step_in_place.signature κs) where
 -- ---- `lent::exported::zkir_step`: state, memory, list, count, mode
 abbrev pub stepsLent : Telling zkir_step.ended
 stepsLent κs a r e =
-    lentLeft r (now (e .0)) (now (e .1 .0)) (listed (r .count) (now (e .1 .1 .0)))
+    lentStep r (now (e .0)) (now (e .1 .0)) (listed (r .count) (now (e .1 .1 .0)))
     ≡ stepLent (a .1 .1 .1 .1 .0) (now (a .0)) (now (a .1 .0)) (listed (a .1 .1 .1 .0) (now (a .1 .1 .0)))
 
 module _ (κs : Lfts 3) (a : Args zkir_step.signature κs) where

@@ -8,7 +8,7 @@ use denote.Triple.Clauses.{Ended, Lasts, AtExit, atExit}
 use Rattle.execute.specs.World.{World, worldOf, Stepped}
 use Rattle.pending.specs.Pending.{Lists, lists}
 use Rattle.given.specs.Given.{executed}
-use Rattle.step.specs.Step.{Left, stepped}
+use Rattle.step.specs.Step.{Left, oneStep}
 use Rattle.run.specs.Run.{Answer, ran}
 use Rattle.host.specs.Call.{Called, called}
 use Rattle.given.proofs.execute as given·execute
@@ -30,7 +30,7 @@ module _ (T : Ended) where
   abbrev pub Allows : Telling → (κs : Lfts (T .signature .lifetimes)) (a : Args (T .signature) κs) → Leaves κs a → Type 0
   Allows told κs a x = told κs a (x .0) (atExit T κs a (x .1))
 
--- a run's arguments, which are the same for both: state, fuel, memory, values, widths, pcs, count
+-- a run's arguments, which are the same for both: state, fuel, memory, values, bounds, pcs, count
 module _ (κs : Lfts 4) (a : Args run_plain.signature κs) where
   abbrev pub worldGiven : World
   worldGiven = worldOf (a .0) (now (a .1 .1 .0))
@@ -45,7 +45,7 @@ module _ (κs : Lfts 4) (a : Args run_plain.signature κs) where
   abbrev pub ranTo : Leaves run_plain.ended κs a → Answer
   ranTo x = ran (x .0) (x .1 .1 .1 .0) (x .1 .1 .1 .1 .0) (x .1 .1 .1 .1 .1 .0) (x .1 .1 .1 .1 .1 .1 .0)
 
--- a single step: choices, state, memory, values, widths, pcs, count
+-- a single step: choices, state, memory, values, bounds, pcs, count
 module _ (κs : Lfts 4) (a : Args step·step.signature κs) where
   abbrev pub worldStepped : World
   worldStepped = worldOf (a .1 .0) (now (a .1 .1 .0))
@@ -54,7 +54,7 @@ module _ (κs : Lfts 4) (a : Args step·step.signature κs) where
   listsStepped = lists (a .1 .1 .1 .1 .1 .1 .0) (now (a .1 .1 .1 .0)) (now (a .1 .1 .1 .1 .0)) (now (a .1 .1 .1 .1 .1 .0))
 
   abbrev pub steppedTo : Leaves step·step.ended κs a → Left
-  steppedTo x = stepped (x .0) (x .1 .1 .1 .0) (x .1 .1 .1 .1 .0) (x .1 .1 .1 .1 .1 .0) (x .1 .1 .1 .1 .1 .1 .0)
+  steppedTo x = oneStep (x .0) (x .1 .1 .1 .0) (x .1 .1 .1 .1 .0) (x .1 .1 .1 .1 .1 .0) (x .1 .1 .1 .1 .1 .1 .0)
 
 -- one given instruction: choices, instruction, state, memory
 module _ (κs : Lfts 1) (a : Args given·execute.signature κs) where

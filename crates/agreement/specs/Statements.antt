@@ -13,7 +13,7 @@ use Rattle.state.specs.Registers.{Registers, holds}
 use Rattle.state.specs.Formed.{wellFormed, allWhole, registersOf}
 use Rattle.effect.specs.Notes.{Notes}
 use Rattle.instruction.specs.declared.Instruction.{Instruction}
-use Rattle.deferred.specs.Limbs.{sumOf, fits, sumInto, subtracted}
+use Rattle.deferred.specs.Limbs.{sumOf, sumFits, sumInto, subtracted}
 use Rattle.execute.specs.World.{World}
 use Rattle.execute.specs.Execute.{execute, admits}
 use Rattle.execute.specs.declared.Mode.{Mode}
@@ -31,7 +31,7 @@ use Rattle.run.specs.Run.{run}
 use Rattle.run.proofs.run_plain
 use Rattle.run.proofs.run_deferred
 use Rattle.layout.specs.Layout.{stateIn}
-use Rattle.host.specs.Call.{taken, callOf}
+use Rattle.host.specs.Call.{callTaken, callOf}
 use Rattle.host.proofs.zkir_run
 use Rattle.checked.proofs.step as checked·step
 use Rattle.lent.proofs.step_in_place
@@ -81,7 +81,7 @@ CallsAgree =
 -- One that the plain mode refuses before any step leaves the very same bytes in both.
 abbrev pub RefusedCallsAgree : Type 0
 RefusedCallsAgree =
-    (st m an : List ℕ) (fuel : ℕ) → allWhole (stateIn st .accumulated) ≡ true → taken st an 0 ≡ false
+    (st m an : List ℕ) (fuel : ℕ) → allWhole (stateIn st .accumulated) ≡ true → callTaken st an 0 ≡ false
     → callOf st m an fuel 1 ≡ callOf st m an fuel 0
 
 -- Of the code: whatever two calls of `zkir_run` leave, as far as its own contract allows it, on the same bytes and fuel, in either mode.
@@ -126,7 +126,7 @@ RunsKeepLimbs =
 abbrev pub SumsAreHeld : Type 0
 SumsAreHeld =
     (rd : ℕ) (x y : Held) (bound : ℕ) (R T : Registers) → Full R → Full T → rd % 16 ≢ 0
-    → holds (sumInto rd x y bound R T) rd ≡ cond (fits x y) (sumOf x y) (sumOf (settled x) (settled y))
+    → holds (sumInto rd x y bound R T) rd ≡ cond (sumFits x y) (sumOf x y) (sumOf (settled x) (settled y))
 
 abbrev pub DifferencesAreHeld : Type 0
 DifferencesAreHeld =

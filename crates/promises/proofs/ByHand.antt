@@ -18,7 +18,7 @@ use Rattle.checks.specs.Records.{listed, answerTo, withOne}
 use Rattle.checked.specs.Machine.{ranOver}
 use Rattle.checks.specs.declared.Pending.{Pending}
 use Rattle.checks.proofs.Listed.{listed-injective}
-use Rattle.lent.specs.Lent.{Stepped}
+use Rattle.lent.specs.Lent.{LentStep}
 use Rattle.agreement.specs.Contracts.{Telling}
 use Rattle.agreement.specs.ByHand.{steps, stepsInPlace, stepsLent}
 use Rattle.promises.specs.ByHand.{ByHand}
@@ -89,4 +89,4 @@ lent·step-in-place = (
 
 pub lent·exported·zkir-step : ByHand lent.exported.zkir_step.ended (λ M 𝓤. lent.exported.zkir_step.clauses {M = M} 𝓤) stepsLent
 lent·exported·zkir-step =
-    (λ M 𝓤 H A m run κs a g r e. refl, λ κs a x y. over (λ (s : Stepped) l. s .answer & s .state & s .memory & l & tt & tt & tt) (λ s. s .lists) refl refl)
+    (λ M 𝓤 H A m run κs a g r e. refl, λ κs a x y. over (λ (s : LentStep) l. s .answer & s .state & s .memory & l & tt & tt & tt) (λ s. s .lists) refl refl)
