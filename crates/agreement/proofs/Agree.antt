@@ -1,11 +1,11 @@
 -- An instruction in either mode, its accumulated registers read as their values, is the plain instruction on the values.
-use Prim.Native.Nat.{ℕ, _+_, _%_, _^_, _<_}
+use Prim.Native.Nat.{ℕ, _+_, _%_}
 use mathlib.Core.Path.{_≡_, refl, ap, _∙_}
 use mathlib.Core.Bool.{Bool, true, false}
 use lib.ListN.{getD}
 use native.Mathlib.Omega.{arith}
 use Rattle.value.specs.Forty.{add40, sub40}
-use Rattle.state.specs.Held.{Held, Whole, valueOf, lowOf, highOf, settled, heldOf}
+use Rattle.state.specs.Held.{Held, Whole, valueOf, lowOf, highOf, settled}
 use Rattle.state.specs.Registers.{Registers, put, holds, noted}
 use Rattle.effect.specs.Operations.{plus64}
 use Rattle.effect.specs.Notes.{Notes}
@@ -25,7 +25,7 @@ use Rattle.instruction.specs.declared.Instruction.the-variants.{Add, Sub, Addi}
 use Rattle.agreement.specs.Reading.{readAll, readWorld, unchecked, readStep, Sized}
 use Rattle.agreement.specs.Statements.{InstructionsAgree}
 use Rattle.agreement.proofs.Cases.{cond-case, limb-cases}
-use Rattle.agreement.proofs.Values.{sum-value, settled-sum, settled-sum-value, difference-value}
+use Rattle.agreement.proofs.Values.{low-small, sum-value, settled-sum, settled-sum-value, difference-value}
 use Rattle.agreement.proofs.Reading.{seen-read, read-whole, read-put, read-normalise, read-settle}
 use Rattle.agreement.proofs.Sized.{sized-normalise}
 
@@ -52,11 +52,6 @@ sum-reads rd x y b R T z u e =
     (put T rd (sumOf (settled x) (settled y)) b)
     (λ f. read-put R rd (sumOf x y) b ((fits-true (lowOf x + lowOf y) (highOf x + highOf y) f) .0) z ∙ rw (sum-value x y))
     (λ _. read-put T rd (sumOf (settled x) (settled y)) b ((settled-sum x y) .0) u ∙ rw (settled-sum-value x y, e))
-
-low-small : (f : Bool) (v : ℕ) → lowOf (heldOf f v) < 2 ^ 30
-unfolding lowOf heldOf
-low-small true v = omega arith
-low-small false v = omega arith
 
 difference-reads : (N : Notes) (rd rs1 rs2 : ℕ) (R : Registers) → Sized R → covers (holds R rs1) (holds R rs2) ≡ true
     → readAll (subtracted N rd rs1 rs2 R)

@@ -4,6 +4,10 @@ pub mod Keeping
 pub mod Formed
 pub mod Capped
 pub mod Sound
+pub mod Limbs
+pub mod Held
+pub mod Refused
+pub mod RefusedCalls
 pub mod Reading
 pub mod Sized
 pub mod Agree

@@ -1,11 +1,18 @@
--- The values of sums and differences of limbs, modulo 2^40.
+-- Limbs as they are kept, and the values of their sums and differences, modulo 2^40.
 use Prim.Native.Nat.{ℕ, _+_, _-_, _*_, _%_, _^_, _≤_, _<_}
 use mathlib.Core.Path.{_≡_}
+use mathlib.Core.Bool.{Bool, true, false}
 use native.Mathlib.Omega.{arith}
 use Rattle.value.specs.Forty.{add40, sub40}
-use Rattle.state.specs.Held.{Held, Whole, Limbs, lowOf, highOf, valueOf, settled}
+use Rattle.state.specs.Held.{Held, Whole, Limbs, lowOf, highOf, valueOf, settled, heldOf}
 use Rattle.state.proofs.Normal.{settled-whole, whole-limbs}
 use Rattle.deferred.specs.Limbs.{sumOf}
+
+-- as a register is kept, its low limb is below 2^30
+pub low-small : (f : Bool) (v : ℕ) → lowOf (heldOf f v) < 2 ^ 30
+unfolding lowOf heldOf
+low-small true v = omega arith
+low-small false v = omega arith
 
 limbs-value : (h : Held) → (lowOf h + 2 ^ 20 * highOf h) % 2 ^ 40 ≡ valueOf h % 2 ^ 40
 unfolding lowOf highOf valueOf

@@ -5,12 +5,16 @@ use contract.Lifetimes.{Lfts}
 use denote.Ref.{now}
 use denote.Triple.Entry.{Args, Res}
 use denote.Triple.Clauses.{Ended, Lasts, AtExit, atExit}
-use Rattle.execute.specs.World.{World, worldOf}
+use Rattle.execute.specs.World.{World, worldOf, Stepped}
 use Rattle.execute.specs.declared.Mode.{Mode}
 use Rattle.execute.specs.declared.Mode.the-variants.{Plain, Deferred}
 use Rattle.pending.specs.Pending.{Lists, lists}
+use Rattle.given.specs.Given.{executed}
+use Rattle.step.specs.Step.{Left, oneStep}
 use Rattle.run.specs.Run.{Answer, ran}
 use Rattle.host.specs.Call.{Called, called}
+use Rattle.given.proofs.execute as given·execute
+use Rattle.step.proofs.step as step·step
 use Rattle.run.proofs.run_plain
 use Rattle.run.proofs.run_deferred
 use Rattle.host.proofs.zkir_run
@@ -48,6 +52,25 @@ module _ (κs : Lfts 4) (a : Args run_plain.signature κs) where
 unfoldable pub toldBy : Mode → Telling run_plain.ended
 toldBy Plain = run_plain.Reads.Learnt
 toldBy Deferred = run_deferred.Reads.Learnt
+
+-- a single step: choices, state, memory, values, bounds, pcs, count
+module _ (κs : Lfts 4) (a : Args step·step.signature κs) where
+  abbrev pub worldStepped : World
+  worldStepped = worldOf (a .1 .0) (now (a .1 .1 .0))
+
+  abbrev pub listsStepped : Lists
+  listsStepped = lists (a .1 .1 .1 .1 .1 .1 .0) (now (a .1 .1 .1 .0)) (now (a .1 .1 .1 .1 .0)) (now (a .1 .1 .1 .1 .1 .0))
+
+  abbrev pub steppedTo : Leaves step·step.ended κs a → Left
+  steppedTo x = oneStep (x .0) (x .1 .1 .1 .0) (x .1 .1 .1 .1 .0) (x .1 .1 .1 .1 .1 .0) (x .1 .1 .1 .1 .1 .1 .0)
+
+-- one given instruction: choices, instruction, state, memory
+module _ (κs : Lfts 1) (a : Args given·execute.signature κs) where
+  abbrev pub worldExecuted : World
+  worldExecuted = worldOf (a .1 .1 .0) (now (a .1 .1 .1 .0))
+
+  abbrev pub executedTo : Leaves given·execute.ended κs a → Stepped
+  executedTo x = executed (x .0) (x .1 .1 .1 .1 .0)
 
 -- the host's call: state, memory and answer bytes, fuel, and then the mode
 pub record CallGiven : Type 0 where

@@ -1,13 +1,19 @@
--- What every instruction keeps, and what normalising one register does.
+-- What every instruction keeps, what a refused one leaves, and what normalising one register does.
 use Prim.Native.Nat.{ℕ, _+_, _*_, _%_, _^_, _≤_, _<_}
 use mathlib.Core.Path.{_≡_}
 use mathlib.Core.Logic.{_≢_}
+use mathlib.Core.List.{[]}
+use Rattle.refusal.specs.declared.Refusal.{Refusal}
 use Rattle.state.specs.Held.{Whole, lowOf, highOf, valueOf, normal, joined}
 use Rattle.state.specs.Registers.{Registers, holds, noted, normalise}
 use Rattle.effect.specs.Notes.{Notes}
 use Rattle.instruction.specs.declared.Division.{Division}
 use Rattle.instruction.specs.declared.LoadKind.{LoadKind}
 use Rattle.instruction.specs.declared.Operation.{Operation}
+use Rattle.pending.specs.Pending.{Lists}
+use Rattle.execute.specs.World.{World, Stepped}
+use Rattle.execute.specs.declared.Went.the-variants as W
+use Rattle.step.specs.Step.{Left}
 
 -- "Bounds are notes of 0 to 64 bits, capped at 64": of the notes that are written
 pub record Capped (N : Notes) : Type 0 where
@@ -20,12 +26,24 @@ pub record Capped (N : Notes) : Type 0 where
   pub loaded : (op : LoadKind) → N .loaded op ≤ 64
   pub link : (v : ℕ) → N .link v ≤ 64
 
+-- every limb of every register is below 2^30; registers are numbered modulo 16
+abbrev pub SmallLimbs : Registers → Type 0
+SmallLimbs R = (n : ℕ) → (lowOf (holds R n) < 2 ^ 30) × (highOf (holds R n) < 2 ^ 30)
+
 -- `wellFormed` in facts: "R0 is whole, zero, bound 0", bounds at most 64, and "Accumulated limbs are below 2^30" (a whole register's always)
 pub record Formed (R : Registers) : Type 0 where
   pub zero-whole : holds R 0 ≡ Whole 0
   pub zero-bound : noted R 0 ≡ 0
   pub bounded : (n : ℕ) → noted R n ≤ 64
-  pub small : (n : ℕ) → (lowOf (holds R n) < 2 ^ 30) × (highOf (holds R n) < 2 ^ 30)
+  pub small : SmallLimbs R
+
+-- a step that is refused leaves the world and the lists as they were
+abbrev pub Restores : Left → World → Lists → Type 0
+Restores s w l = (r : Refusal) → s .went ≡ W.Refused r → (s .world ≡ w) × (s .lists ≡ l)
+
+-- an instruction that is refused leaves the world as it was, and asks for no check
+abbrev pub Undoes : Stepped → World → Type 0
+Undoes s w = (r : Refusal) → s .went ≡ W.Refused r → (s .world ≡ w) × (s .checks ≡ [])
 
 -- the register n, which held the limbs low and high, normalised
 pub record Normalised (R : Registers) (n low high : ℕ) : Type 0 where

@@ -2,4 +2,5 @@ pub mod Reading
 pub mod Keeping
 pub mod Contracts
 pub mod Fuel
+pub mod ByHand
 pub mod Statements

@@ -38,6 +38,10 @@ readStep s = stepped (s .went) (readWorld (s .world)) []
 abbrev pub Sized : Registers → Type 0
 Sized R = 16 ≤ length (R .accumulated)
 
+-- and a number
+abbrev pub Full : Registers → Type 0
+Full R = Sized R × (16 ≤ length (R .values))
+
 -- a run's answer: the stop with its particulars, the steps, the pc, the halt mark, the memory, the bounds and the values
 abbrev pub readAnswer : Answer → Answer
 readAnswer a = answer (a .stop) (a .steps) (readWorld (a .world)) (a .lists)

@@ -1,34 +1,46 @@
 -- What this crate proves, in the words in which it is asked for.
-use Prim.Native.Nat.{ℕ, _+_, _≤_}
+use Prim.Native.Nat.{ℕ, _+_, _-_, _%_, _≤_}
 use mathlib.Core.Path.{_≡_}
-use mathlib.Core.Bool.{Bool, true, false}
+use mathlib.Core.Logic.{_≢_}
+use mathlib.Core.Bool.{Bool, true, false, cond}
 use mathlib.Core.List.{List}
 use contract.Lifetimes.{Lfts}
 use denote.Triple.Entry.{Args}
 use borrow.Fn.Kinds.{GoodsP}
-use Rattle.state.specs.Held.{Limbs}
+use Rattle.refusal.specs.declared.Refusal.{Refusal}
+use Rattle.state.specs.Held.{Held, Limbs, lowOf, highOf, settled}
 use Rattle.state.specs.Registers.{Registers, holds}
-use Rattle.state.specs.Formed.{wellFormed, allWhole}
+use Rattle.state.specs.Formed.{wellFormed, allWhole, registersOf}
 use Rattle.effect.specs.Notes.{Notes}
 use Rattle.instruction.specs.declared.Instruction.{Instruction}
+use Rattle.deferred.specs.Limbs.{sumOf, sumFits, sumInto, subtracted}
 use Rattle.execute.specs.World.{World}
 use Rattle.execute.specs.Execute.{execute, admits}
 use Rattle.execute.specs.declared.Mode.{Mode}
 use Rattle.execute.specs.declared.Mode.the-variants.{Plain, Deferred}
+use Rattle.execute.specs.declared.Went.the-variants as W
 use Rattle.pending.specs.Pending.{Lists, noLists}
 use Rattle.pending.specs.declared.Room.{Room}
 use Rattle.pending.specs.declared.Room.the-variants.{Unlent}
 use Rattle.execute.specs.Rules.{Rules, documentRules}
+use Rattle.given.specs.Given.{executeOne}
+use Rattle.given.proofs.execute as given·execute
 use Rattle.step.specs.Step.{step}
+use Rattle.step.proofs.step as step·step
 use Rattle.run.specs.Run.{run}
 use Rattle.run.proofs.run_plain
 use Rattle.run.proofs.run_deferred
 use Rattle.layout.specs.Layout.{stateIn}
 use Rattle.host.specs.Call.{callTaken, callOf}
 use Rattle.host.proofs.zkir_run
-use Rattle.agreement.specs.Reading.{readWorld, unchecked, readStep, readAnswer, readCall, Sized}
+use Rattle.checked.proofs.step as checked·step
+use Rattle.lent.proofs.step_in_place
+use Rattle.lent.proofs.exported.zkir_step
+use Rattle.agreement.specs.Reading.{readWorld, unchecked, readStep, readAnswer, readCall, Sized, Full}
 use Rattle.agreement.specs.Contracts.{Leaves, Allows, toldBy, worldGiven, fuelGiven, listsGiven, ranTo, callGiven, modeGiven, calledTo}
-use Rattle.agreement.specs.Keeping.{Capped, Normalised}
+use Rattle.agreement.specs.Contracts.{worldStepped, listsStepped, steppedTo, worldExecuted, executedTo}
+use Rattle.agreement.specs.ByHand.{Says, steps, recordsGiven, recordsAfter, stepsInPlace, placeGiven, placeAfter, stepsLent, lentGiven, lentAfter}
+use Rattle.agreement.specs.Keeping.{Capped, SmallLimbs, Restores, Undoes, Normalised}
 use Rattle.agreement.specs.Fuel.{BySteps, continued}
 
 -- For every memory, fuel and state with no accumulated register, and no list lent, the plain and the deferred run agree on the stop with its
@@ -97,6 +109,91 @@ abbrev pub RunsKeep : Type 0
 RunsKeep =
     (R : Rules) → Capped (R .notes) → (k : Mode) (fuel : ℕ) (w : World) (l : Lists)
     → wellFormed (w .registers) ≡ true → wellFormed ((run k R fuel w l) .world .registers) ≡ true
+
+-- Under document 01's rules, with nothing assumed of notes: after every step from a well-formed state, deferred or plain, with lists or without,
+-- the state is well-formed, and every limb of every register is below 2^30. And so after every run.
+abbrev pub StepsKeepLimbs : Type 0
+StepsKeepLimbs =
+    (k : Mode) (w : World) (l : Lists) → wellFormed (w .registers) ≡ true
+    → let after = (step k documentRules w l) .world .registers in (wellFormed after ≡ true) × SmallLimbs after
+
+abbrev pub RunsKeepLimbs : Type 0
+RunsKeepLimbs =
+    (k : Mode) (fuel : ℕ) (w : World) (l : Lists) → wellFormed (w .registers) ≡ true
+    → let after = (run k documentRules fuel w l) .world .registers in (wellFormed after ≡ true) × SmallLimbs after
+
+-- As a register is kept, no low limb can be read as 2^30 or more. So besides, of every register but R0: what Add and Addi, and Sub, compute on
+-- limbs is what rd then holds.
+abbrev pub SumsAreHeld : Type 0
+SumsAreHeld =
+    (rd : ℕ) (x y : Held) (bound : ℕ) (R T : Registers) → Full R → Full T → rd % 16 ≢ 0
+    → holds (sumInto rd x y bound R T) rd ≡ cond (sumFits x y) (sumOf x y) (sumOf (settled x) (settled y))
+
+abbrev pub DifferencesAreHeld : Type 0
+DifferencesAreHeld =
+    (N : Notes) (rd rs1 rs2 : ℕ) (R : Registers) → Full R → rd % 16 ≢ 0
+    → holds (subtracted N rd rs1 rs2 R) rd ≡ Limbs (lowOf (holds R rs1) - lowOf (holds R rs2)) (highOf (holds R rs1) - highOf (holds R rs2))
+
+-- Of the code: the state that a call of `step`, of `run_deferred` and of `run_plain` leaves, as far as their own contracts allow it.
+abbrev pub StepCallsKeepLimbs : Type 0
+StepCallsKeepLimbs =
+    (κs : Lfts 4) (a : Args step·step.signature κs) (x : Leaves step·step.ended κs a) → Allows step·step.ended step·step.Reads.Learnt κs a x
+    → wellFormed (worldStepped κs a .registers) ≡ true
+    → let after = registersOf (x .0 .state) in (wellFormed after ≡ true) × SmallLimbs after
+
+abbrev pub DeferredCallsKeepLimbs : Type 0
+DeferredCallsKeepLimbs =
+    (κs : Lfts 4) (a : Args run_deferred.signature κs) (x : Leaves run_deferred.ended κs a) → Allows run_deferred.ended run_deferred.Reads.Learnt κs a x
+    → wellFormed (worldGiven κs a .registers) ≡ true
+    → let after = registersOf (x .0 .state) in (wellFormed after ≡ true) × SmallLimbs after
+
+abbrev pub PlainCallsKeepLimbs : Type 0
+PlainCallsKeepLimbs =
+    (κs : Lfts 4) (a : Args run_plain.signature κs) (x : Leaves run_plain.ended κs a) → Allows run_plain.ended run_plain.Reads.Learnt κs a x
+    → wellFormed (worldGiven κs a .registers) ≡ true
+    → let after = registersOf (x .0 .state) in (wellFormed after ≡ true) × SmallLimbs after
+
+-- "A refused step restores even normalised sources": registers, limbs, bounds, pc, mark, memory and lists are as they were, in either mode,
+-- with lists or without, under any rules. The same of an instruction, and of one that is given.
+abbrev pub RefusedStepsRestore : Type 0
+RefusedStepsRestore = (k : Mode) (R : Rules) (w : World) (l : Lists) → Restores (step k R w l) w l
+
+abbrev pub RefusedInstructionsUndo : Type 0
+RefusedInstructionsUndo = (k : Mode) (room : Room) (N : Notes) (i : Instruction) (w : World) → Undoes (execute k room N i w) w
+
+abbrev pub RefusedGivenUndo : Type 0
+RefusedGivenUndo = (k : Mode) (N : Notes) (i : Instruction) (w : World) → Undoes (executeOne k N i w) w
+
+-- Of the code: whatever a call leaves, as far as its own contract allows it, where the answer says that it was refused.
+abbrev pub StepCallsRestore : Type 0
+StepCallsRestore =
+    (κs : Lfts 4) (a : Args step·step.signature κs) (x : Leaves step·step.ended κs a) → Allows step·step.ended step·step.Reads.Learnt κs a x
+    → Restores (steppedTo κs a x) (worldStepped κs a) (listsStepped κs a)
+
+abbrev pub GivenCallsUndo : Type 0
+GivenCallsUndo =
+    (κs : Lfts 1) (a : Args given·execute.signature κs) (x : Leaves given·execute.ended κs a) → Allows given·execute.ended given·execute.Reads.Learnt κs a x
+    → Undoes (executedTo κs a x) (worldExecuted κs a)
+
+-- And of the steps over a list of records, which are proved by hand: state, memory, list and count are as they were.
+abbrev pub RecordStepsRestore : Type 2
+RecordStepsRestore =
+    Says checked·step.ended (λ M 𝓤. checked·step.clauses {M = M} 𝓤) steps
+    × ((κs : Lfts 2) (a : Args checked·step.signature κs) (x : Leaves checked·step.ended κs a) → Allows checked·step.ended steps κs a x
+    → (r : Refusal) → x .0 .went ≡ W.Refused r → recordsAfter κs a x ≡ recordsGiven κs a)
+
+abbrev pub StepsInPlaceRestore : Type 2
+StepsInPlaceRestore =
+    Says step_in_place.ended (λ M 𝓤. step_in_place.clauses {M = M} 𝓤) stepsInPlace
+    × ((κs : Lfts 3) (a : Args step_in_place.signature κs) (x : Leaves step_in_place.ended κs a) → Allows step_in_place.ended stepsInPlace κs a x
+    → (r : Refusal) → x .0 .went ≡ W.Refused r → placeAfter κs a x ≡ placeGiven κs a)
+
+-- `zkir_step` tells a refusal by its code, 1 to 9.
+abbrev pub LentStepsRestore : Type 2
+LentStepsRestore =
+    Says zkir_step.ended (λ M 𝓤. zkir_step.clauses {M = M} 𝓤) stepsLent
+    × ((κs : Lfts 3) (a : Args zkir_step.signature κs) (x : Leaves zkir_step.ended κs a) → Allows zkir_step.ended stepsLent κs a x
+    → 1 ≤ x .0 .code → x .0 .code ≤ 9 → lentAfter κs a x ≡ lentGiven κs a)
 
 -- Normalising an accumulated register of a well-formed state.
 abbrev pub NormalisingIsExact : Type 0

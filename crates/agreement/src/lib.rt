@@ -1,2 +1,2 @@
-// Both modes are one computer, the code of the runs and of the host's call too; what a run's steps and fuel are; and what a deferred
-// instruction keeps: specs/ says it, proofs/ shows it. There is no code here.
+// Both modes are one computer, the code of the runs and of the host's call too; what a run's steps and fuel are; what a deferred
+// instruction keeps; and that a refused step changes nothing: specs/ says it, proofs/ shows it. There is no code here.

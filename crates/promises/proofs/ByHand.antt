@@ -11,15 +11,16 @@ use Rattle.lent.proofs as lent
 use Rattle.execute.specs.World.{worldOf}
 use Rattle.execute.specs.Rules.{rulesOf}
 use Rattle.pending.specs.Pending.{Lists, emptied, entryAt}
-use Rattle.step.specs.Step.{Left, left, step}
+use Rattle.step.specs.Step.{Left}
 use Rattle.run.specs.Run.{Answer, run}
 use Rattle.host.specs.Call.{stateOf}
 use Rattle.checks.specs.Records.{listed, answerTo, withOne}
-use Rattle.checked.specs.Machine.{steppedOver, ranOver}
+use Rattle.checked.specs.Machine.{ranOver}
 use Rattle.checks.specs.declared.Pending.{Pending}
 use Rattle.checks.proofs.Listed.{listed-injective}
-use Rattle.lent.specs.Lent.{LentStep, lentStep, stepLent}
+use Rattle.lent.specs.Lent.{LentStep}
 use Rattle.agreement.specs.Contracts.{Telling}
+use Rattle.agreement.specs.ByHand.{steps, stepsInPlace, stepsLent}
 use Rattle.promises.specs.ByHand.{ByHand}
 use Rattle.promises.proofs.Laws.{one, _&_}
 use Rattle.promises.proofs.Regrouped.{oneStepOf, ranOf, outcomeOf}
@@ -62,11 +63,6 @@ pub checks·note-at : ByHand checks.note_at.ended (λ M 𝓤. checks.note_at.cla
 checks·note-at = (λ M 𝓤 H A m run κs a g r e. refl, λ κs a x y. one (λ l. tt & l & x .1 .1))
 
 -- ---- checked
-abbrev steps : Telling checked.step.ended
-steps κs a r e =
-    steppedOver r (now (e .1 .1 .0)) (now (e .1 .1 .1 .0))
-    ≡ step (a .0 .mode) (rulesOf (a .0)) (worldOf (a .1 .0) (now (a .1 .1 .0))) (listed (a .1 .1 .1 .1 .0) (now (a .1 .1 .1 .0)))
-
 pub checked·step : ByHand checked.step.ended (λ M 𝓤. checked.step.clauses {M = M} 𝓤) steps
 checked·step = (
   λ M 𝓤 H A m run κs a g r e. refl,
@@ -85,21 +81,11 @@ checked·run = (
 )
 
 -- ---- lent
-abbrev stepsInPlace : Telling lent.step_in_place.ended
-stepsInPlace κs a r e =
-    left (r .went) (worldOf (now (e .0)) (now (e .1 .1 .0))) (listed (r .count) (now (e .1 .1 .1 .0)))
-    ≡ step (a .1 .0 .mode) (rulesOf (a .1 .0)) (worldOf (now (a .0)) (now (a .1 .1 .0))) (listed (a .1 .1 .1 .1 .0) (now (a .1 .1 .1 .0)))
-
 pub lent·step-in-place : ByHand lent.step_in_place.ended (λ M 𝓤. lent.step_in_place.clauses {M = M} 𝓤) stepsInPlace
 lent·step-in-place = (
   λ M 𝓤 H A m run κs a g r e. refl,
   λ κs a x y. over (λ (s : Left) l. outcomeOf s & stateOf (s .world) & tt & s .world .memory & l & tt & tt) (λ s. s .lists) refl refl,
 )
-
-abbrev stepsLent : Telling lent.exported.zkir_step.ended
-stepsLent κs a r e =
-    lentStep r (now (e .0)) (now (e .1 .0)) (listed (r .count) (now (e .1 .1 .0)))
-    ≡ stepLent (a .1 .1 .1 .1 .0) (now (a .0)) (now (a .1 .0)) (listed (a .1 .1 .1 .0) (now (a .1 .1 .0)))
 
 pub lent·exported·zkir-step : ByHand lent.exported.zkir_step.ended (λ M 𝓤. lent.exported.zkir_step.clauses {M = M} 𝓤) stepsLent
 lent·exported·zkir-step =
