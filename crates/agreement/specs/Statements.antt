@@ -1,5 +1,5 @@
 -- What this crate proves, in the words in which it is asked for.
-use Prim.Native.Nat.{ℕ}
+use Prim.Native.Nat.{ℕ, _<_}
 use mathlib.Core.Path.{_≡_}
 use mathlib.Core.Bool.{Bool, true, false}
 use mathlib.Core.List.{List}
@@ -8,7 +8,8 @@ use denote.Triple.Entry.{Args}
 use borrow.Fn.Kinds.{GoodsP}
 use Rattle.state.specs.Held.{Limbs}
 use Rattle.state.specs.Registers.{Registers, holds}
-use Rattle.state.specs.Formed.{wellFormed, allWhole}
+use Rattle.state.specs.Formed.{wellFormed, allWhole, registersOf}
+use Rattle.normalize.proofs.normalize_register
 use Rattle.effect.specs.Notes.{Notes}
 use Rattle.instruction.specs.declared.Instruction.{Instruction}
 use Rattle.execute.specs.World.{World}
@@ -28,7 +29,7 @@ use Rattle.host.specs.Call.{taken, callOf}
 use Rattle.host.proofs.zkir_run
 use Rattle.agreement.specs.Reading.{readWorld, unchecked, readStep, readAnswer, readCall, noLists, Sized}
 use Rattle.agreement.specs.Contracts.{Leaves, Allows, worldGiven, fuelGiven, listsGiven, ranTo, callGiven, modeGiven, calledTo}
-use Rattle.agreement.specs.Keeping.{Capped, Normalised}
+use Rattle.agreement.specs.Keeping.{Capped, Normalised, NormalisedBy}
 
 -- For every memory, fuel and state with no accumulated register, and no list lent, the plain and the deferred run agree on the stop with its
 -- particulars, the steps, the pc, the halt mark, the memory, the bounds and the values of all registers.
@@ -101,3 +102,10 @@ RunsKeep =
 abbrev pub NormalisingIsExact : Type 0
 NormalisingIsExact =
     (R : Registers) (n low high : ℕ) → wellFormed R ≡ true → holds R n ≡ Limbs low high → Normalised R n low high
+
+-- Of the code: whatever `normalize_register` leaves, as far as its own contract allows it.
+abbrev pub ResultsAreExact : Type 0
+ResultsAreExact =
+    (κs : Lfts 0) (a : Args normalize_register.signature κs) (low high : ℕ) → wellFormed (registersOf (a .0)) ≡ true → a .1 .0 < 16
+    → holds (registersOf (a .0)) (a .1 .0) ≡ Limbs low high → (d : Leaves normalize_register.ended κs a)
+    → Allows normalize_register.ended normalize_register.Reads.Learnt κs a d → NormalisedBy (a .0) (a .1 .0) low high (d .0)
