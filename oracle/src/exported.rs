@@ -2,7 +2,7 @@
 //! total: any numbers and any slices are theirs to answer, so that calling them is safe.
 
 use crate::inside::{Inside, Lent, Limbs, Lists};
-use crate::layout::number;
+use crate::layout::{number, write_answer};
 use crate::numbers::{Answered, FIELDS, KINDS};
 use crate::words::{Decoded, Word, WordSubject};
 
@@ -117,13 +117,13 @@ mod lent {
             widths_length: usize, pcs: Words, pcs_length: usize, count: usize, value: u64, width: u8, pc: u64,
         );
         pub fn oracle_empty(
-            values: Words, values_length: usize, widths: Bytes, widths_length: usize, pcs: Words, pcs_length: usize,
-            count: usize,
-        ) -> usize;
+            answer: Bytes, answer_length: usize, values: Words, values_length: usize, widths: Bytes,
+            widths_length: usize, pcs: Words, pcs_length: usize, count: usize,
+        );
         pub fn oracle_read(
             answer: Bytes, answer_length: usize, values: *const u64, values_length: usize, widths: *const u8,
             widths_length: usize, pcs: *const u64, pcs_length: usize, count: usize, at: usize,
-        );
+        ) -> u64;
     }
 }
 
@@ -165,22 +165,21 @@ impl Inside for Archive {
     fn append(&self, answer: &mut [u8], lists: &mut Lists, [value, bound, pc]: [u64; 3]) {
         let Lists { values, widths, pcs, count } = lists;
         call!(oracle_append[answer, values, widths, pcs](*count, value, bound as u8, pc));
-        if answer.starts_with(&[0; 8]) {
-            *count = number(answer, 8) as usize;
-        }
+        recount(answer, count);
     }
 
-    fn empty(&self, lists: &mut Lists) {
+    fn empty(&self, answer: &mut [u8], lists: &mut Lists) {
         let Lists { values, widths, pcs, count } = lists;
-        *count = call!(oracle_empty[values, widths, pcs](*count));
+        call!(oracle_empty[answer, values, widths, pcs](*count));
+        recount(answer, count);
     }
 
-    fn read(&self, answer: &mut [u8], lists: &Lists, at: usize) {
+    fn read(&self, [answer, entry]: [&mut [u8]; 2], lists: &Lists, at: usize) {
         let Lists { values, widths, pcs, count } = lists;
-        unsafe {
+        let code = unsafe {
             lent::oracle_read(
-                answer.as_mut_ptr(),
-                answer.len(),
+                entry.as_mut_ptr(),
+                entry.len(),
                 values.as_ptr(),
                 values.len(),
                 widths.as_ptr(),
@@ -190,7 +189,15 @@ impl Inside for Archive {
                 *count,
                 at,
             )
-        }
+        };
+        write_answer(answer, [code, 0, 0]);
+    }
+}
+
+/// The count that an answer of 0, the count, 0 tells; a refusal leaves it as it was.
+fn recount(answer: &[u8], count: &mut usize) {
+    if answer.starts_with(&[0; 8]) {
+        *count = number(answer, 8) as usize;
     }
 }
 

@@ -74,13 +74,14 @@ impl Inside for Faulty {
         (self.after)(What::Append(entry), &mut Lent { state: &mut [], memory: &mut [], answer }, lists);
     }
 
-    fn empty(&self, lists: &mut Lists) {
-        OracleInside.empty(lists);
-        (self.after)(What::Empty, &mut Lent { state: &mut [], memory: &mut [], answer: &mut [] }, lists);
+    fn empty(&self, answer: &mut [u8], lists: &mut Lists) {
+        OracleInside.empty(answer, lists);
+        (self.after)(What::Empty, &mut Lent { state: &mut [], memory: &mut [], answer }, lists);
     }
 
-    fn read(&self, answer: &mut [u8], lists: &Lists, at: usize) {
-        OracleInside.read(answer, lists, at);
+    fn read(&self, [answer, entry]: [&mut [u8]; 2], lists: &Lists, at: usize) {
+        OracleInside.read([&mut *answer, entry], lists, at);
+        (self.after)(What::Read(at), &mut Lent { state: &mut [], memory: &mut [], answer }, &mut lists.clone());
     }
 }
 

@@ -53,7 +53,7 @@ impl fmt::Display for Register {
 /// The pc, the halt mark, and sixteen registers with a bound each. R0 is always whole, zero, with bound 0.
 ///
 /// It is kept as its 400 bytes, which every function here leaves well-formed. That a run does so too follows from what is
-/// proved, `RunsKeep` in `crates/agreement` and `written-admissible` in `crates/host`.
+/// proved, `RunsKeep` in `crates/agreement` and `written-admissible` in `crates/layout`.
 ///
 /// Registers are named by their numbers, as places of a slice are: every function that is given one panics where it is
 /// above 15. Displayed, a state is its pc and mark, then the registers that are not fresh:

@@ -12,6 +12,7 @@ pub mod Reading
 pub mod Sized
 pub mod Agree
 pub mod Normalised
+pub mod Results
 pub mod Runs
 pub mod Bytes
 pub mod Calls

@@ -32,7 +32,7 @@ settled-there n R z =
     let mark : waits (holds (normalise n R) n) ≡ false = waits-held _ _ ∙ rw (normalise-set n R z) (unmarked (R .accumulated) (n % 16)) in
     whole-held _ mark ∙ ap Whole (value-stays n n R) ∙ sym (settled-whole (holds R n))
 
-not-zero : (R : Registers) (n low high : ℕ) → Formed R → holds R n ≡ Limbs low high → n % 16 ≢ 0
+pub not-zero : (R : Registers) (n low high : ℕ) → Formed R → holds R n ≡ Limbs low high → n % 16 ≢ 0
 not-zero R n low high f e z =
     let same : holds R n ≡ Whole 0 = rw z (f .zero-whole) in
     let never : _≡_ {A = ℕ} 0 1 = cc in

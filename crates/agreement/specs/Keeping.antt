@@ -3,9 +3,14 @@ use Prim.Native.Nat.{ℕ, _+_, _*_, _%_, _^_, _≤_, _<_}
 use mathlib.Core.Path.{_≡_}
 use mathlib.Core.Logic.{_≢_}
 use mathlib.Core.List.{[]}
+use lib.ListN.{getD}
 use Rattle.refusal.specs.declared.Refusal.{Refusal}
 use Rattle.state.specs.Held.{Whole, lowOf, highOf, valueOf, normal, joined}
 use Rattle.state.specs.Registers.{Registers, holds, noted, normalise}
+use Rattle.state.specs.Formed.{registersOf}
+use Rattle.state.specs.declared.State.{State}
+use Rattle.normalize.specs.declared.Normalized.{Normalized}
+use Rattle.normalize.specs.declared.Normalizing.the-variants.{Done}
 use Rattle.effect.specs.Notes.{Notes}
 use Rattle.instruction.specs.declared.Division.{Division}
 use Rattle.instruction.specs.declared.LoadKind.{LoadKind}
@@ -52,3 +57,13 @@ pub record Normalised (R : Registers) (n low high : ℕ) : Type 0 where
   pub exact : valueOf (holds (normalise n R) n) + 2 ^ 40 * normal 20 low high .carry1 ≡ low + 2 ^ 20 * high
   pub bounds : (normalise n R) .bounds ≡ R .bounds
   pub others : (m : ℕ) → m % 16 ≢ n % 16 → holds (normalise n R) m ≡ holds R m
+
+-- what a call answers that normalised the register n of the state s, which held the limbs low and high
+pub record NormalisedBy (s : State) (n low high : ℕ) (r : Normalized) : Type 0 where
+  pub done : r .answer ≡ Done
+  pub limbs-small : (getD (r .result .normalized) 0 0 < 2 ^ 20) × (getD (r .result .normalized) 1 0 < 2 ^ 20)
+  pub small : (lowOf (holds (registersOf (r .state)) n) < 2 ^ 20) × (highOf (holds (registersOf (r .state)) n) < 2 ^ 20)
+  pub exact : valueOf (holds (registersOf (r .state)) n) + 2 ^ 40 * getD (r .result .carries) 1 0 ≡ low + 2 ^ 20 * high
+  pub bounds : r .state .bounds ≡ s .bounds
+  pub others : (m : ℕ) → m % 16 ≢ n % 16 → holds (registersOf (r .state)) m ≡ holds (registersOf s) m
+  pub pc-and-mark : (r .state .pc ≡ s .pc) × (r .state .halted ≡ s .halted)

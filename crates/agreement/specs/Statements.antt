@@ -1,5 +1,5 @@
 -- What this crate proves, in the words in which it is asked for.
-use Prim.Native.Nat.{ℕ, _+_, _-_, _%_, _≤_}
+use Prim.Native.Nat.{ℕ, _+_, _-_, _%_, _≤_, _<_}
 use mathlib.Core.Path.{_≡_}
 use mathlib.Core.Logic.{_≢_}
 use mathlib.Core.Bool.{Bool, true, false, cond}
@@ -11,6 +11,7 @@ use Rattle.refusal.specs.declared.Refusal.{Refusal}
 use Rattle.state.specs.Held.{Held, Limbs, lowOf, highOf, settled}
 use Rattle.state.specs.Registers.{Registers, holds}
 use Rattle.state.specs.Formed.{wellFormed, allWhole, registersOf}
+use Rattle.normalize.proofs.normalize_register
 use Rattle.effect.specs.Notes.{Notes}
 use Rattle.instruction.specs.declared.Instruction.{Instruction}
 use Rattle.deferred.specs.Limbs.{sumOf, sumFits, sumInto, subtracted}
@@ -40,7 +41,7 @@ use Rattle.agreement.specs.Reading.{readWorld, unchecked, readStep, read
 use Rattle.agreement.specs.Contracts.{Leaves, Allows, toldBy, worldGiven, fuelGiven, listsGiven, ranTo, callGiven, modeGiven, calledTo}
 use Rattle.agreement.specs.Contracts.{worldStepped, listsStepped, steppedTo, worldExecuted, executedTo}
 use Rattle.agreement.specs.ByHand.{Says, steps, recordsGiven, recordsAfter, stepsInPlace, placeGiven, placeAfter, stepsLent, lentGiven, lentAfter}
-use Rattle.agreement.specs.Keeping.{Capped, SmallLimbs, Restores, Undoes, Normalised}
+use Rattle.agreement.specs.Keeping.{Capped, SmallLimbs, Restores, Undoes, Normalised, NormalisedBy}
 use Rattle.agreement.specs.Fuel.{BySteps, continued}
 
 -- For every memory, fuel and state with no accumulated register, and no list lent, the plain and the deferred run agree on the stop with its
@@ -199,6 +200,13 @@ LentStepsRestore =
 abbrev pub NormalisingIsExact : Type 0
 NormalisingIsExact =
     (R : Registers) (n low high : ℕ) → wellFormed R ≡ true → holds R n ≡ Limbs low high → Normalised R n low high
+
+-- Of the code: whatever `normalize_register` leaves, as far as its own contract allows it.
+abbrev pub ResultsAreExact : Type 0
+ResultsAreExact =
+    (κs : Lfts 0) (a : Args normalize_register.signature κs) (low high : ℕ) → wellFormed (registersOf (a .0)) ≡ true → a .1 .0 < 16
+    → holds (registersOf (a .0)) (a .1 .0) ≡ Limbs low high → (d : Leaves normalize_register.ended κs a)
+    → Allows normalize_register.ended normalize_register.Reads.Learnt κs a d → NormalisedBy (a .0) (a .1 .0) low high (d .0)
 
 -- "never more than the fuel": of every run, refused ones too.
 abbrev pub RunsWithinFuel : Type 0

@@ -2,18 +2,20 @@
 --     listed-injective      what the three lists hold determines the records
 --     fits-is, room-is      the lists' tests, of the room
 --     listed-more           a record put at the count is one check more; there is none where there is no room
---     no-entry, entry-is    what is read back, from the test that `read` makes
+--     refused-to-empty .. entry-is    what the calls answer, from the tests that they make
 use Prim.Native.Nat.{ℕ, zero, suc, _+_, _<_, _≤_}
 use mathlib.Core.Path.{_≡_, refl, ap, _∙_}
-use mathlib.Core.Bool.{Bool, true, false, _||_}
+use mathlib.Core.Bool.{true, false}
 use mathlib.Core.List.{List, [], _∷_, map}
-use lib.Dec.{leb, ltb}
+use lib.Dec.{leb}
 use lib.ListN.{length, set, getD, drop, length-map, List·getD-map}
 use native.Mathlib.Omega.{arith}
-use borrow.Author.Tests.{lt-ltb, le-ltb, eq-eqb, le-leb, lt-leb, ltb-true, ltb-false, leb-true, leb-false}
-use Rattle.pending.specs.Pending.{Lists, listsFit, roomAt, roomOf, appended, entryAt}
+use borrow.Author.Tests.{lt-ltb, le-ltb, eq-eqb, le-leb, lt-leb}
+use Rattle.refusal.specs.Stops.{refusalOf}
+use Rattle.pending.specs.Pending.{Lists, listsFit, roomAt, roomOf, appended, emptyAnswer, emptyLists, entryAt}
+use Rattle.pending.specs.declared.Counted.the-variants as N
 use Rattle.pending.specs.declared.Entry.the-variants as E
-use Rattle.pending.proofs.Lists.{entry-malformed, entry-beyond, entry-there}
+use Rattle.pending.proofs.Lists.{empty-malformed, empty-done, entry-malformed, entry-beyond, entry-there}
 use Rattle.checks.specs.Records.{listed}
 use Rattle.checks.specs.declared.Pending.{Pending}
 
@@ -45,28 +47,33 @@ module _ (n : ℕ) (l : List Pending) (p : Pending) where
   unfolding appended
   listed-same h = rw (length-map l (λ (p : Pending). p .value), le-ltb n (length l) h)
 
-module _ (n i : ℕ) (l : List Pending) where
-  pub no-entry : (ltb (length l) n || leb n i) ≡ true → E.Nothing ≡ entryAt i (listed n l)
-  no-entry = told (ltb (length l) n) refl
-    where
-      told : (t : Bool) → ltb (length l) n ≡ t → (t || leb n i) ≡ true → E.Nothing ≡ entryAt i (listed n l)
-      told true s e = entry-malformed i (listed n l) (fits-is n l ∙ lt-leb n (length l) (ltb-true _ _ s))
-      told false s e = entry-beyond i (listed n l) (fits-is n l ∙ le-leb n (length l) (ltb-false _ _ s)) (leb-true _ _ e)
+module _ (n : ℕ) (l : List Pending) where
+  pub not-within : length l < n → listsFit (listed n l) ≡ false
+  not-within h = fits-is n l ∙ lt-leb n (length l) h
 
-  pub entry-is : (ltb (length l) n || leb n i) ≡ false
-      → (i < length l) × (E.Check (getD l i none .value) (getD l i none .bound) (getD l i none .pc) ≡ entryAt i (listed n l))
-  entry-is = told (ltb (length l) n) refl
-    where
-      told : (t : Bool) → ltb (length l) n ≡ t → (t || leb n i) ≡ false
-          → (i < length l) × (E.Check (getD l i none .value) (getD l i none .bound) (getD l i none .pc) ≡ entryAt i (listed n l))
-      told true s e = let z : _≡_ {A = ℕ} 0 1 = cc in absurd (omega arith)
-      told false s e =
-          let within : n ≤ length l = ltb-false _ _ s in
-          let there : i < n = leb-false _ _ e in (
-            omega arith,
-            rw (← List·getD-map (λ (p : Pending). p .value) l i none, ← List·getD-map (λ (p : Pending). p .bound) l i none, ← List·getD-map (λ (p : Pending). p .pc) l i none)
-                (entry-there i (listed n l) (fits-is n l ∙ le-leb n (length l) within) there),
-          )
+  pub within : n ≤ length l → listsFit (listed n l) ≡ true
+  within h = fits-is n l ∙ le-leb n (length l) h
+
+  pub refused-to-empty : length l < n
+      → (N.Refused (refusalOf 9 0) ≡ emptyAnswer (listed n l)) × (listed ((emptyLists (listed n l)) .count) l ≡ emptyLists (listed n l))
+  refused-to-empty h = let t = empty-malformed (listed n l) (not-within h) in (t .0, rw (← t .1))
+
+  pub empties : n ≤ length l
+      → (N.Count 0 ≡ emptyAnswer (listed n l)) × (listed ((emptyLists (listed n l)) .count) l ≡ emptyLists (listed n l))
+  empties h = let t = empty-done (listed n l) (within h) in (t .0, rw (← t .1))
+
+  module _ (i : ℕ) where
+    pub refused-to-read : length l < n → E.Refused (refusalOf 9 0) ≡ entryAt i (listed n l)
+    refused-to-read h = entry-malformed i (listed n l) (not-within h)
+
+    pub no-entry : n ≤ length l → n ≤ i → E.Nothing ≡ entryAt i (listed n l)
+    no-entry h g = entry-beyond i (listed n l) (within h) g
+
+    pub entry-is : n ≤ length l → i < n
+        → E.Check (getD l i none .value) (getD l i none .bound) (getD l i none .pc) ≡ entryAt i (listed n l)
+    entry-is h g =
+        rw (← List·getD-map (λ (p : Pending). p .value) l i none, ← List·getD-map (λ (p : Pending). p .bound) l i none, ← List·getD-map (λ (p : Pending). p .pc) l i none)
+        (entry-there i (listed n l) (within h) g)
 
 same-record : (v b pc v′ b′ pc′ : ℕ) → v ≡ v′ → b ≡ b′ → pc ≡ pc′ → made v b pc ≡ made v′ b′ pc′
 same-record v b pc v′ b′ pc′ e f g = rw (e, f, g)

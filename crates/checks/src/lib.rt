@@ -1,12 +1,10 @@
 // Pending checks as one lent slice of records, and how many of them are in use.
-use pending::Appended;
+use pending::Counted;
 use pending::Entry;
 use refusal::Refusal;
 ghost use mathlib.Core.Path.{_≡_};
-ghost use mathlib.Core.Bool.{_||_};
-ghost use lib.Dec.{leb, ltb};
 ghost use lib.ListN.{set};
-ghost use Rattle.pending.specs.Pending.{emptied, entryAt};
+ghost use Rattle.pending.specs.Pending.{emptyAnswer, emptyLists, entryAt};
 ghost use Rattle.checks.specs.Records.{listed, answerTo, withOne};
 ghost use Rattle.checks.specs.Places.{Fits};
 
@@ -19,7 +17,7 @@ pub struct Pending {
 
 // Where a check is to be listed, which is beyond the list where none is, and the answer.
 struct Placed {
-    answer: Appended,
+    answer: Counted,
     place: usize,
 }
 
@@ -38,30 +36,30 @@ fn place_for(room: usize, count: usize, p: Pending) -> Placed
 {
     if room < count {
         return Placed {
-            answer: Appended::Refused(Refusal::Malformed),
+            answer: Counted::Refused(Refusal::Malformed),
             place: room,
         };
     }
     if count < room {
         return Placed {
-            answer: Appended::At(count + 1),
+            answer: Counted::Count(count + 1),
             place: count,
         };
     }
     if room == 0 {
         return Placed {
-            answer: Appended::At(count),
+            answer: Counted::Count(count),
             place: room,
         };
     }
     Placed {
-        answer: Appended::Refused(Refusal::ListFull { pc: p.pc }),
+        answer: Counted::Refused(Refusal::ListFull { pc: p.pc }),
         place: room,
     }
 }
 
 // Lists one check. Where no list is lent, none is listed and nothing refused.
-pub fn append(list: &mut [Pending], count: usize, p: Pending) -> Appended
+pub fn append(list: &mut [Pending], count: usize, p: Pending) -> Counted
     ensures { λ r. ⌜ (r ≡ answerTo p count (now (list .entry))) × (listed ((withOne p count (now (list .entry))) .count) (now (list .exit)) ≡ withOne p count (now (list .entry))) ⌝ }
 {
     let r = place_for(list.len(), count, p);
@@ -69,23 +67,23 @@ pub fn append(list: &mut [Pending], count: usize, p: Pending) -> Appended
     r.answer
 }
 
-// The count of the emptied list.
-pub fn empty(list: &mut [Pending], count: usize) -> usize
-    ensures { λ r. ⌜ listed r (now (list .exit)) ≡ emptied (listed count (now (list .entry))) ⌝ }
+// Empties the list: the count is 0 then, and the records stay.
+pub fn empty(list: &mut [Pending], count: usize) -> Counted
+    ensures { λ r. ⌜ (r ≡ emptyAnswer (listed count (now (list .entry)))) × (listed ((emptyLists (listed count (now (list .entry)))) .count) (now (list .exit)) ≡ emptyLists (listed count (now (list .entry)))) ⌝ }
 {
-    0
-}
-
-fn beyond(room: usize, count: usize, at: usize) -> bool
-    ensures { λ r. ⌜ r ≡ (ltb room count || leb count at) ⌝ }
-{
-    (room < count) | (count <= at)
+    if list.len() < count {
+        return Counted::Refused(Refusal::Malformed);
+    }
+    Counted::Count(0)
 }
 
 pub fn read(list: &[Pending], count: usize, at: usize) -> Entry
     ensures { λ r. ⌜ r ≡ entryAt at (listed count (now (list .entry))) ⌝ }
 {
-    if beyond(list.len(), count, at) {
+    if list.len() < count {
+        return Entry::Refused(Refusal::Malformed);
+    }
+    if count <= at {
         return Entry::Nothing;
     }
     let p = list[at];

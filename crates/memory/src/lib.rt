@@ -49,7 +49,7 @@ fn aligned(address: u64, size: Size) -> bool
     }
 }
 
-pub fn size_of(size: Size) -> u64
+fn size_of(size: Size) -> u64
     ensures { λ r. ⌜ r ≡ sizeOf size ⌝ }
 {
     match size {
@@ -75,7 +75,7 @@ fn within(len: usize, address: u64, size: Size) -> bool
     true
 }
 
-pub fn reach(len: usize, address: u64, size: Size) -> Access
+fn reach(len: usize, address: u64, size: Size) -> Access
     ensures { λ r. ⌜ r ≡ accessOf (sizeOf size) len address ⌝ }
 {
     if !aligned(address, size) {
@@ -131,7 +131,7 @@ pub fn load(m: &[u8], address: u64, size: Size) -> Loaded
 }
 
 // What a store would answer: nothing is stored.
-pub fn storable(len: usize, address: u64, size: Size) -> Stored
+fn storable(len: usize, address: u64, size: Size) -> Stored
     ensures { λ r. ⌜ r ≡ storeOf size len address ⌝ }
 {
     match reach(len, address, size) {

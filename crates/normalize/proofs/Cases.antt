@@ -1,21 +1,23 @@
 -- The cases of the functions of normalize.rs, from what the code tests and calls.
-use Prim.Native.Nat.{ℕ, _%_, _^_, _<_, _≤_}
+use Prim.Native.Nat.{ℕ, _+_, _*_, _%_, _^_, _<_, _≤_}
 use mathlib.Core.Path.{_≡_, refl}
 use mathlib.Core.Bool.{Bool, true, false, cond, _||_}
 use native.Mathlib.Omega.{arith}
 use lib.Dec.{leb}
+use lib.ListN.{getD}
 use borrow.Author.Tests.{lt-ltb, le-ltb, ne-eqb, leb-false}
-use Rattle.state.specs.Held.{lowOf, highOf, waits, kept, normal, joined}
-use Rattle.state.specs.Registers.{Registers, holds, noted, place, normalise}
+use Rattle.state.specs.Held.{lowOf, highOf, waits, kept}
+use Rattle.state.specs.Registers.{Registers, holds, noted, place}
 use Rattle.state.specs.Formed.{registersOf}
-use Rattle.normalize.specs.Normalizing.{resultOf, zeros, wouldOverflow, withRegisters, unneeded, malformed, normalizedTo, normalizeRegister, normalizeAndWrite, normalizeIfNearOverflow}
+use Rattle.normalize.specs.Normalizing.{resultOf, zeros, wouldOverflow, withRegisters, madeWhole, unneeded, malformed, normalizedTo, normalizeRegister, normalizeAndWrite, normalizeIfNearOverflow}
 use Rattle.state.specs.declared.State.{State}
 use Rattle.normalize.specs.declared.NormalizationResult.{NormalizationResult}
 
-done : (s : State) {r t : NormalizationResult} {R S : Registers} → r ≡ t → R ≡ S → normalizedTo r (withRegisters s R) ≡ normalizedTo t (withRegisters s S)
-done s {r} {t} {R} {S} e f = rw (e, f)
-
 module _ (s : State) (n : ℕ) where
+  pub whole-written : (v : ℕ) (R : Registers) → R ≡ place (n % 16) v false (noted (registersOf s) n) (registersOf s) → withRegisters s R ≡ madeWhole s n v
+  unfolding kept waits
+  whole-written v R e = rw e
+
   pub register-malformed : 16 ≤ n → malformed s ≡ normalizeRegister s n
   unfolding normalizeRegister
   register-malformed h = rw (le-ltb n 16 h)
@@ -28,11 +30,10 @@ module _ (s : State) (n : ℕ) where
   unfolding normalizeRegister
   register-whole h z e = rw (lt-ltb n 16 h, ne-eqb n 0 z, e)
 
-  pub register-done : (r : NormalizationResult) (R : Registers) → n < 16 → (n ≡ 0 → ⊥) → waits (holds (registersOf s) n) ≡ true
-      → r ≡ resultOf (lowOf (holds (registersOf s) n)) (highOf (holds (registersOf s) n)) → R ≡ normalise n (registersOf s)
-      → normalizedTo r (withRegisters s R) ≡ normalizeRegister s n
+  pub register-limbs : (low high : ℕ) → n < 16 → (n ≡ 0 → ⊥) → waits (holds (registersOf s) n) ≡ true
+      → low ≡ lowOf (holds (registersOf s) n) → high ≡ highOf (holds (registersOf s) n) → normalizeAndWrite s n low high ≡ normalizeRegister s n
   unfolding normalizeRegister
-  register-done r R h z e p q = rw (lt-ltb n 16 h, ne-eqb n 0 z, e) (done s p q)
+  register-limbs low high h z e p q = rw (lt-ltb n 16 h, ne-eqb n 0 z, e, p, q)
 
   pub near-malformed : 16 ≤ n → malformed s ≡ normalizeIfNearOverflow s n
   unfolding normalizeIfNearOverflow
@@ -61,11 +62,11 @@ module _ (s : State) (n : ℕ) where
     unfolding normalizeAndWrite
     write-large h z e = rw (lt-ltb n 16 h, ne-eqb n 0 z, e)
 
-    pub write-done : (r : NormalizationResult) (R : Registers) → n < 16 → (n ≡ 0 → ⊥) → wouldOverflow low high ≡ false
-        → r ≡ resultOf low high → R ≡ place (n % 16) (joined (normal 20 low high)) false (noted (registersOf s) n) (registersOf s)
-        → normalizedTo r (withRegisters s R) ≡ normalizeAndWrite s n low high
-    unfolding normalizeAndWrite kept waits
-    write-done r R h z e p q = rw (lt-ltb n 16 h, ne-eqb n 0 z, e) (done s p q)
+    pub write-done : (r : NormalizationResult) (t : State) → n < 16 → (n ≡ 0 → ⊥) → wouldOverflow low high ≡ false
+        → r ≡ resultOf low high → t ≡ madeWhole s n (getD (r .normalized) 0 0 + 2 ^ 20 * getD (r .normalized) 1 0)
+        → normalizedTo r t ≡ normalizeAndWrite s n low high
+    unfolding normalizeAndWrite
+    write-done r t h z e p q = rw (lt-ltb n 16 h, ne-eqb n 0 z, e, q, p)
 
 pub none-large : (low high : ℕ) → wouldOverflow low high ≡ false → (low < 2 ^ 30) × (high < 2 ^ 30)
 none-large low high e = both (leb (2 ^ 30) low) (leb (2 ^ 30) high) refl refl e

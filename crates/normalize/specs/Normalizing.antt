@@ -6,7 +6,7 @@ use lib.ListN.{getD}
 use lib.Dec.{ltb, leb, eqb}
 use Rattle.refusal.specs.Stops.{refusalOf}
 use Rattle.state.specs.Held.{Whole, lowOf, highOf, waits, normal, joined}
-use Rattle.state.specs.Registers.{Registers, holds, noted, put, normalise}
+use Rattle.state.specs.Registers.{Registers, holds, noted, put}
 use Rattle.state.specs.Formed.{registersOf}
 use Rattle.state.specs.declared.State.{State}
 use Rattle.normalize.specs.declared.NormalizationResult.{NormalizationResult}
@@ -34,6 +34,10 @@ wouldOverflow low high = leb (2 ^ 30) low || leb (2 ^ 30) high
 abbrev pub withRegisters : State → Registers → State
 withRegisters s R = record { pc = s .pc; halted = s .halted; regs = R .values; accumulated = R .accumulated; bounds = R .bounds }
 
+-- a register made whole, which keeps its bound
+abbrev pub madeWhole : State → ℕ → ℕ → State
+madeWhole s n v = let R = registersOf s in withRegisters s (put R n (Whole v) (noted R n))
+
 abbrev pub unneeded : State → Normalized
 unneeded s = record { answer = Unneeded; result = zeros; state = s }
 
@@ -43,25 +47,22 @@ malformed s = record { answer = Refused (refusalOf 9 0); result = zeros; state =
 abbrev pub normalizedTo : NormalizationResult → State → Normalized
 normalizedTo r s = record { answer = Done; result = r; state = s }
 
--- R0 and a whole register stay
-unfoldable pub normalizeRegister : State → ℕ → Normalized
-normalizeRegister s n =
-    let R = registersOf s in
-    let h = holds R n in
-    cond (ltb n 16)
-    (cond (not (eqb n 0) && waits h) (normalizedTo (resultOf (lowOf h) (highOf h)) (withRegisters s (normalise n R))) (unneeded s))
-    (malformed s)
-
 -- "answers zeros for R0, then refuses (9) limbs of 2^30 or more; it too keeps the bound"
 unfoldable pub normalizeAndWrite : State → ℕ → ℕ → ℕ → Normalized
 normalizeAndWrite s n low high =
-    let R = registersOf s in
     cond (ltb n 16)
     (cond (eqb n 0) (normalizedTo zeros s)
     (cond (wouldOverflow low high) (malformed s)
-    (normalizedTo (resultOf low high) (withRegisters s (put R n (Whole (joined (normal 20 low high))) (noted R n))))))
+    (normalizedTo (resultOf low high) (madeWhole s n (joined (normal 20 low high))))))
     (malformed s)
 
+-- "Normalising it, or R0, does nothing. Normalising an accumulated one follows `normalize_and_write`", which refuses limbs of 2^30 or more
+unfoldable pub normalizeRegister : State → ℕ → Normalized
+normalizeRegister s n =
+    let h = holds (registersOf s) n in
+    cond (ltb n 16) (cond (not (eqb n 0) && waits h) (normalizeAndWrite s n (lowOf h) (highOf h)) (unneeded s)) (malformed s)
+
+-- where limbs don't fit in 30 bits, which no register may hold: so nothing is normalised here
 unfoldable pub normalizeIfNearOverflow : State → ℕ → Normalized
 normalizeIfNearOverflow s n =
     let h = holds (registersOf s) n in

@@ -3,8 +3,9 @@ use refusal::Refusal;
 use state::State;
 use state::registers;
 ghost use mathlib.Core.Path.{_≡_};
-ghost use Prim.Native.Nat.{_<_, _^_};
-ghost use Rattle.normalize.specs.Normalizing.{resultOf, zeros, unneeded, malformed, hasCarries, totalCarry, wouldOverflow, normalizeRegister, normalizeAndWrite, normalizeIfNearOverflow};
+ghost use Prim.Native.Nat.{_<_, _+_, _*_, _^_};
+ghost use lib.ListN.{getD};
+ghost use Rattle.normalize.specs.Normalizing.{resultOf, zeros, madeWhole, unneeded, malformed, hasCarries, totalCarry, wouldOverflow, normalizeAndWrite, normalizeRegister, normalizeIfNearOverflow};
 
 // The limbs before, the limbs after, and the carry out of each.
 pub struct NormalizationResult {
@@ -90,7 +91,7 @@ fn malformed(s: State) -> Normalized
 
 fn result_of(low: u64, high: u64) -> NormalizationResult
     requires { ⌜ low < 2 ^ 30 ⌝ }
-    requires { ⌜ high < 2 ^ 34 ⌝ }
+    requires { ⌜ high < 2 ^ 30 ⌝ }
     ensures { λ r. ⌜ r ≡ resultOf low high ⌝ }
 {
     let carry0 = low / 0x10_0000;
@@ -104,38 +105,31 @@ fn result_of(low: u64, high: u64) -> NormalizationResult
     }
 }
 
-// Normalises one register, if it is accumulated.
-pub fn normalize_register(s: State, reg: u8) -> Normalized
-    ensures { λ r. ⌜ r ≡ normalizeRegister s reg ⌝ }
+fn joined(r: NormalizationResult) -> u64
+    ensures { λ v. ⌜ v ≡ getD (r .normalized) 0 0 + 2 ^ 20 * getD (r .normalized) 1 0 ⌝ }
 {
-    if 16 <= reg {
-        return malformed(s);
-    }
-    if reg == 0 {
-        return unneeded(s);
-    }
+    let limbs = r.normalized;
+    wide(limbs[0]) + 0x10_0000 * wide(limbs[1])
+}
+
+// The state with a register made whole, which keeps its bound.
+fn made_whole(s: State, reg: u8, v: u64) -> State
+    ensures { λ r. ⌜ r ≡ madeWhole s reg v ⌝ }
+{
     let mut regs = s.regs;
     let mut accumulated = s.accumulated;
-    if !registers::waits_at(&accumulated, reg) {
-        return unneeded(s);
-    }
-    let low = registers::low_at(&regs, &accumulated, reg);
-    let high = registers::high_at(&regs, &accumulated, reg);
-    let result = result_of(low, high);
-    registers::normalise(&mut regs, &mut accumulated, reg);
-    let bounds = s.bounds;
-    let state = State {
-        pc: s.pc,
-        halted: s.halted,
-        regs,
-        accumulated,
-        bounds,
-    };
-    Normalized {
-        answer: Normalizing::Done,
-        result,
-        state,
-    }
+    let mut bounds = s.bounds;
+    let bound = registers::bound_at(&bounds, reg);
+    registers::write(
+        &mut regs,
+        &mut accumulated,
+        &mut bounds,
+        reg,
+        v,
+        false,
+        bound,
+    );
+    state::together(s.pc, s.halted, regs, accumulated, bounds)
 }
 
 // Normalises limbs and writes them to a register, which keeps its bound.
@@ -156,35 +150,34 @@ pub fn normalize_and_write(s: State, reg: u8, low: u64, high: u64) -> Normalized
         return malformed(s);
     }
     let result = result_of(low, high);
-    let v = low % 0x10_0000 + 0x10_0000 * ((high + low / 0x10_0000) % 0x10_0000);
-    let mut regs = s.regs;
-    let mut accumulated = s.accumulated;
-    let mut bounds = s.bounds;
-    let bound = registers::bound_at(&bounds, reg);
-    registers::write(
-        &mut regs,
-        &mut accumulated,
-        &mut bounds,
-        reg,
-        v,
-        false,
-        bound,
-    );
-    let state = State {
-        pc: s.pc,
-        halted: s.halted,
-        regs,
-        accumulated,
-        bounds,
-    };
     Normalized {
         answer: Normalizing::Done,
         result,
-        state,
+        state: made_whole(s, reg, joined(result)),
     }
 }
 
-// Normalises a register whose limbs no longer fit in 30 bits.
+// Normalises one register, if it is accumulated.
+pub fn normalize_register(s: State, reg: u8) -> Normalized
+    ensures { λ r. ⌜ r ≡ normalizeRegister s reg ⌝ }
+{
+    if 16 <= reg {
+        return malformed(s);
+    }
+    if reg == 0 {
+        return unneeded(s);
+    }
+    let regs = s.regs;
+    let accumulated = s.accumulated;
+    if !registers::waits_at(&accumulated, reg) {
+        return unneeded(s);
+    }
+    let low = registers::low_at(&regs, &accumulated, reg);
+    let high = registers::high_at(&regs, &accumulated, reg);
+    normalize_and_write(s, reg, low, high)
+}
+
+// Normalises a register whose limbs don't fit in 30 bits, as the Rust does. Since no register may hold such limbs, that is a refusal.
 pub fn normalize_if_near_overflow(s: State, reg: u8) -> Normalized
     ensures { λ r. ⌜ r ≡ normalizeIfNearOverflow s reg ⌝ }
 {

@@ -8,9 +8,9 @@ use native.Mathlib.Omega.{arith}
 use lib.Dec.{leb, eqb}
 use borrow.Author.Tests.{lt-ltb, le-ltb, ltb-true, eqb-true, eq-eqb, ne-eqb, leb-true}
 use Rattle.refusal.specs.Stops.{refusalOf}
-use Rattle.pending.specs.Pending.{Lists, lists, Check, listing, listsFit, roomAt, roomOf, lacks, appended, appendAnswer, appendLists, entryAt}
+use Rattle.pending.specs.Pending.{Lists, lists, Check, listing, listsFit, roomAt, roomOf, lacks, appended, appendAnswer, appendLists, emptyAnswer, emptyLists, entryAt}
 use Rattle.pending.specs.declared.Room.the-variants.{Unlent, Left}
-use Rattle.pending.specs.declared.Appended.the-variants as A
+use Rattle.pending.specs.declared.Counted.the-variants as N
 use Rattle.pending.specs.declared.Entry.the-variants as E
 
 -- the room from the tests that the code makes
@@ -40,21 +40,30 @@ module _ (v b pc : ℕ) (l : Lists) where
   unfolding appended
   a-place h = rw (lt-ltb (l .count) (length (l .values)) h)
 
-  pub append-malformed : listsFit l ≡ false → (A.Refused (refusalOf 9 0) ≡ appendAnswer v b pc l) × (appendLists v b pc l ≡ l)
+  pub append-malformed : listsFit l ≡ false → (N.Refused (refusalOf 9 0) ≡ appendAnswer v b pc l) × (appendLists v b pc l ≡ l)
   unfolding appendAnswer appendLists
   append-malformed e = rw e (refl, refl)
 
-  pub append-full : listsFit l ≡ true → lacks (roomOf l) 1 ≡ true → (A.Refused (refusalOf 8 pc) ≡ appendAnswer v b pc l) × (appendLists v b pc l ≡ l)
+  pub append-full : listsFit l ≡ true → lacks (roomOf l) 1 ≡ true → (N.Refused (refusalOf 8 pc) ≡ appendAnswer v b pc l) × (appendLists v b pc l ≡ l)
   unfolding appendAnswer appendLists
   append-full e f = rw (e, f) (refl, sym (no-place (no-room (length (l .values)) (l .count) f)))
 
   pub append-done : listsFit l ≡ true → lacks (roomOf l) 1 ≡ false
-      → (A.At ((appended v b pc l) .count) ≡ appendAnswer v b pc l) × (appendLists v b pc l ≡ appended v b pc l)
+      → (N.Count ((appended v b pc l) .count) ≡ appendAnswer v b pc l) × (appendLists v b pc l ≡ appended v b pc l)
   unfolding appendAnswer appendLists
   append-done e f = rw (e, f) (refl, refl)
 
+module _ (l : Lists) where
+  pub empty-malformed : listsFit l ≡ false → (N.Refused (refusalOf 9 0) ≡ emptyAnswer l) × (l ≡ emptyLists l)
+  unfolding emptyAnswer emptyLists
+  empty-malformed e = rw e (refl, refl)
+
+  pub empty-done : listsFit l ≡ true → (N.Count 0 ≡ emptyAnswer l) × (lists 0 (l .values) (l .bounds) (l .pcs) ≡ emptyLists l)
+  unfolding emptyAnswer emptyLists
+  empty-done e = rw e (refl, refl)
+
 module _ (n : ℕ) (l : Lists) where
-  pub entry-malformed : listsFit l ≡ false → E.Nothing ≡ entryAt n l
+  pub entry-malformed : listsFit l ≡ false → E.Refused (refusalOf 9 0) ≡ entryAt n l
   unfolding entryAt
   entry-malformed e = rw e
 

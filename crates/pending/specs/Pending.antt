@@ -9,8 +9,8 @@ use Rattle.pending.specs.declared.Checks.{Checks}
 use Rattle.pending.specs.declared.Checks.the-variants as C
 use Rattle.pending.specs.declared.Room.{Room}
 use Rattle.pending.specs.declared.Room.the-variants.{Unlent, Left}
-use Rattle.pending.specs.declared.Appended.{Appended}
-use Rattle.pending.specs.declared.Appended.the-variants as A
+use Rattle.pending.specs.declared.Counted.{Counted}
+use Rattle.pending.specs.declared.Counted.the-variants as N
 use Rattle.pending.specs.declared.Entry.{Entry}
 use Rattle.pending.specs.declared.Entry.the-variants as E
 
@@ -28,8 +28,11 @@ abbrev pub noLists : Lists
 noLists = lists 0 [] [] []
 
 -- "Lists of unequal length, or a count beyond them, are malformed"
+abbrev pub lengthsFit : ℕ → ℕ → ℕ → ℕ → Bool
+lengthsFit values bounds pcs count = eqb bounds values && eqb pcs values && leb count values
+
 abbrev pub listsFit : Lists → Bool
-listsFit l = eqb (length (l .bounds)) (length (l .values)) && eqb (length (l .pcs)) (length (l .values)) && leb (l .count) (length (l .values))
+listsFit l = lengthsFit (length (l .values)) (length (l .bounds)) (length (l .pcs)) (l .count)
 
 -- how many checks more the lists take, by their length and the count; any number where none is lent
 unfoldable pub roomAt : ℕ → ℕ → Room
@@ -67,16 +70,23 @@ listing [] pc l = l
 listing (c ∷ cs) pc l = listing cs pc (appended (c .value) (c .bound) pc l)
 
 -- appending by itself: 9 for malformed lists, 8 where a list is lent and full
-unfoldable pub appendAnswer : ℕ → ℕ → ℕ → Lists → Appended
+unfoldable pub appendAnswer : ℕ → ℕ → ℕ → Lists → Counted
 appendAnswer v b pc l =
-    cond (listsFit l) (cond (lacks (roomOf l) 1) (A.Refused (refusalOf 8 pc)) (A.At ((appended v b pc l) .count))) (A.Refused (refusalOf 9 0))
+    cond (listsFit l) (cond (lacks (roomOf l) 1) (N.Refused (refusalOf 8 pc)) (N.Count ((appended v b pc l) .count))) (N.Refused (refusalOf 9 0))
 
 unfoldable pub appendLists : ℕ → ℕ → ℕ → Lists → Lists
 appendLists v b pc l = cond (listsFit l) (appended v b pc l) l
 
--- "Emptying the list makes its room usable again"; the entries stay where they are
-abbrev pub emptied : Lists → Lists
-emptied l = lists 0 (l .values) (l .bounds) (l .pcs)
+-- "Emptying the list makes its room usable again"; the entries stay where they are. 9 for malformed lists
+unfoldable pub emptyAnswer : Lists → Counted
+emptyAnswer l = cond (listsFit l) (N.Count 0) (N.Refused (refusalOf 9 0))
 
+unfoldable pub emptyLists : Lists → Lists
+emptyLists l = cond (listsFit l) (lists 0 (l .values) (l .bounds) (l .pcs)) l
+
+-- the entry at a place below the count; 9 for malformed lists
 unfoldable pub entryAt : ℕ → Lists → Entry
-entryAt n l = cond (listsFit l && ltb n (l .count)) (E.Check (getD (l .values) n 0) (getD (l .bounds) n 0) (getD (l .pcs) n 0)) E.Nothing
+entryAt n l =
+    cond (listsFit l)
+    (cond (ltb n (l .count)) (E.Check (getD (l .values) n 0) (getD (l .bounds) n 0) (getD (l .pcs) n 0)) E.Nothing)
+    (E.Refused (refusalOf 9 0))

@@ -1,10 +1,8 @@
 // Pending checks, in three lent lists of numbers and a count: values, the bounds that were noted of them, and pcs.
 use refusal::Refusal;
 ghost use mathlib.Core.Path.{_≡_};
-ghost use mathlib.Core.Bool.{_&&_};
-ghost use lib.Dec.{eqb, leb};
 ghost use lib.ListN.{set};
-ghost use Rattle.pending.specs.Pending.{lists, roomAt, lacks, checksOf, appended, listing, appendAnswer, appendLists, emptied, entryAt};
+ghost use Rattle.pending.specs.Pending.{lists, lengthsFit, roomAt, lacks, checksOf, appended, listing, appendAnswer, appendLists, emptyAnswer, emptyLists, entryAt};
 
 // The checks that a step asks for. The bound comes first: LLVM would else store the last field and the mark of `Nothing` as one
 // byte at a place that is chosen, and so keep checks in memory.
@@ -19,19 +17,21 @@ pub enum Room {
     Left(usize),
 }
 
-pub enum Appended {
-    At(usize),
+// How many checks are listed after a call, or its refusal.
+pub enum Counted {
+    Count(usize),
     Refused(Refusal),
 }
 
 pub enum Entry {
     Check { value: u64, bound: u8, pc: u64 },
     Nothing,
+    Refused(Refusal),
 }
 
 // Whether the lists are of one length, and the count within it.
 pub fn lists_fit(values: usize, bounds: usize, pcs: usize, count: usize) -> bool
-    ensures { λ r. ⌜ r ≡ (eqb bounds values && eqb pcs values && leb count values) ⌝ }
+    ensures { λ r. ⌜ r ≡ lengthsFit values bounds pcs count ⌝ }
 {
     (bounds == values) & (pcs == values) & (count <= values)
 }
@@ -122,23 +122,26 @@ pub fn append(
     value: u64,
     bound: u8,
     pc: u64,
-) -> Appended
+) -> Counted
     ensures { λ r. ⌜ (r ≡ appendAnswer value bound pc (lists count (now (values .entry)) (now (bounds .entry)) (now (pcs .entry)))) × (lists ((appendLists value bound pc (lists count (now (values .entry)) (now (bounds .entry)) (now (pcs .entry)))) .count) (now (values .exit)) (now (bounds .exit)) (now (pcs .exit)) ≡ appendLists value bound pc (lists count (now (values .entry)) (now (bounds .entry)) (now (pcs .entry)))) ⌝ }
 {
     if !lists_fit(values.len(), bounds.len(), pcs.len(), count) {
-        return Appended::Refused(Refusal::Malformed);
+        return Counted::Refused(Refusal::Malformed);
     }
     if lacks(room_at(values.len(), count), 1) {
-        return Appended::Refused(Refusal::ListFull { pc });
+        return Counted::Refused(Refusal::ListFull { pc });
     }
-    Appended::At(note(values, bounds, pcs, count, value, bound, pc))
+    Counted::Count(note(values, bounds, pcs, count, value, bound, pc))
 }
 
-// The count of the emptied list.
-pub fn empty(values: &mut [u64], bounds: &mut [u8], pcs: &mut [u64], count: usize) -> usize
-    ensures { λ r. ⌜ lists r (now (values .exit)) (now (bounds .exit)) (now (pcs .exit)) ≡ emptied (lists count (now (values .entry)) (now (bounds .entry)) (now (pcs .entry))) ⌝ }
+// Empties the lists: the count is 0 then, and the entries stay.
+pub fn empty(values: &mut [u64], bounds: &mut [u8], pcs: &mut [u64], count: usize) -> Counted
+    ensures { λ r. ⌜ (r ≡ emptyAnswer (lists count (now (values .entry)) (now (bounds .entry)) (now (pcs .entry)))) × (lists ((emptyLists (lists count (now (values .entry)) (now (bounds .entry)) (now (pcs .entry)))) .count) (now (values .exit)) (now (bounds .exit)) (now (pcs .exit)) ≡ emptyLists (lists count (now (values .entry)) (now (bounds .entry)) (now (pcs .entry)))) ⌝ }
 {
-    0
+    if !lists_fit(values.len(), bounds.len(), pcs.len(), count) {
+        return Counted::Refused(Refusal::Malformed);
+    }
+    Counted::Count(0)
 }
 
 pub fn read<'a>(
@@ -151,7 +154,7 @@ pub fn read<'a>(
     ensures { λ r. ⌜ r ≡ entryAt at (lists count (now (values .entry)) (now (bounds .entry)) (now (pcs .entry))) ⌝ }
 {
     if !lists_fit(values.len(), bounds.len(), pcs.len(), count) {
-        return Entry::Nothing;
+        return Entry::Refused(Refusal::Malformed);
     }
     if count <= at {
         return Entry::Nothing;

@@ -10,7 +10,7 @@ use Rattle.checked.proofs as checked
 use Rattle.lent.proofs as lent
 use Rattle.execute.specs.World.{worldOf}
 use Rattle.execute.specs.Rules.{rulesOf}
-use Rattle.pending.specs.Pending.{Lists, emptied, entryAt}
+use Rattle.pending.specs.Pending.{Lists, emptyAnswer, emptyLists, entryAt}
 use Rattle.step.specs.Step.{Left}
 use Rattle.run.specs.Run.{Answer, run}
 use Rattle.host.specs.Call.{stateOf}
@@ -45,10 +45,13 @@ checks·append =
     (λ M 𝓤 H A m run κs a g r e. refl, λ κs a x y p q. ap₂ (λ r l. r & l & x .1 .1) (p .0 ∙ sym (q .0)) (records-one (p .1) (q .1)))
 
 abbrev empties : Telling checks.empty.ended
-empties κs a r e = listed r (now (e .0)) ≡ emptied (listed (a .1 .0) (now (a .0)))
+empties κs a r e =
+    (r ≡ emptyAnswer (listed (a .1 .0) (now (a .0))))
+    × (listed (emptyLists (listed (a .1 .0) (now (a .0))) .count) (now (e .0)) ≡ emptyLists (listed (a .1 .0) (now (a .0))))
 
 pub checks·empty : ByHand checks.empty.ended (λ M 𝓤. checks.empty.clauses {M = M} 𝓤) empties
-checks·empty = (λ M 𝓤 H A m run κs a g r e. refl, λ κs a x y. over (λ h l. h .count & l & x .1 .1) (λ h. h) refl refl)
+checks·empty =
+    (λ M 𝓤 H A m run κs a g r e. refl, λ κs a x y p q. ap₂ (λ r l. r & l & x .1 .1) (p .0 ∙ sym (q .0)) (records-one (p .1) (q .1)))
 
 abbrev reads : Telling checks.read.ended
 reads κs a r e = r ≡ entryAt (a .1 .1 .0) (listed (a .1 .0) (now (a .0)))

@@ -230,17 +230,8 @@ memory·bytes·number-at κs a x y = one (λ r. r & x .1)
 pub memory·bytes·put-number : Determined memory.bytes.put_number.ended memory.bytes.put_number.Reads.Learnt
 memory·bytes·put-number κs a x y = one (λ m. tt & m & x .1 .1)
 
-pub memory·size-of : Determined memory.size_of.ended memory.size_of.Reads.Learnt
-memory·size-of κs a x y = one (λ r. r & x .1)
-
-pub memory·reach : Determined memory.reach.ended memory.reach.Reads.Learnt
-memory·reach κs a x y = one (λ r. r & x .1)
-
 pub memory·load : Determined memory.load.ended memory.load.Reads.Learnt
 memory·load κs a x y = one (λ r. r & x .1)
-
-pub memory·storable : Determined memory.storable.ended memory.storable.Reads.Learnt
-memory·storable κs a x y = one (λ r. r & x .1)
 
 pub memory·store : Determined memory.store.ended memory.store.Reads.Learnt
 memory·store κs a x y = two (λ r m. r & m & x .1 .1)
@@ -265,7 +256,7 @@ pub pending·append : Determined pending.append.ended pending.append.Reads.Learn
 pending·append κs a x y = two (λ r (l : Lists). r & l .values & l .bounds & l .pcs & x .1 .1 .1 .1)
 
 pub pending·empty : Determined pending.empty.ended pending.empty.Reads.Learnt
-pending·empty κs a x y = one (λ (l : Lists). l .count & l .values & l .bounds & l .pcs & x .1 .1 .1 .1)
+pending·empty κs a x y = two (λ r (l : Lists). r & l .values & l .bounds & l .pcs & x .1 .1 .1 .1)
 
 pub pending·read : Determined pending.read.ended pending.read.Reads.Learnt
 pending·read κs a x y = one (λ r. r & x .1)
@@ -301,14 +292,8 @@ pub instruction·operands·parts-of : Determined instruction.operands.parts_of.e
 instruction·operands·parts-of κs a x y = one (λ r. r & x .1)
 
 -- ---- words
-pub words·decoder·take : Determined words.decoder.take.ended words.decoder.take.Reads.Learnt
-words·decoder·take κs a x y = one (λ r. r & x .1)
-
 pub words·decoder·decode : Determined words.decoder.decode.ended words.decoder.decode.Reads.Learnt
 words·decoder·decode κs a x y = one (λ r. r & x .1)
-
-pub words·encoder·fits : Determined words.encoder.fits.ended words.encoder.fits.Reads.Learnt
-words·encoder·fits κs a x y = one (λ r. r & x .1)
 
 pub words·encoder·encode : Determined words.encoder.encode.ended words.encoder.encode.Reads.Learnt
 words·encoder·encode κs a x y = one (λ r. r & x .1)
@@ -384,9 +369,6 @@ layout·reading·read-state κs a x y = one (λ r. r & x .1)
 
 pub layout·laid·well-laid : Determined layout.laid.well_laid.ended layout.laid.well_laid.Reads.Learnt
 layout·laid·well-laid κs a x y = one (λ r. r & x .1)
-
-pub layout·laid·is-admissible : Determined layout.laid.is_admissible.ended layout.laid.is_admissible.Reads.Learnt
-layout·laid·is-admissible κs a x y = one (λ r. r & x .1)
 
 -- ---- effect
 pub effect·branch·taken : Determined effect.branch.taken.ended effect.branch.taken.Reads.Learnt
@@ -650,10 +632,10 @@ pub exports·lists·oracle-append : Determined exports.lists.oracle_append.ended
 exports·lists·oracle-append κs a x y = two (λ m (l : Lists). tt & m & l .values & l .bounds & l .pcs & x .1 .1 .1 .1 .1)
 
 pub exports·lists·oracle-empty : Determined exports.lists.oracle_empty.ended exports.lists.oracle_empty.Reads.Learnt
-exports·lists·oracle-empty κs a x y = one (λ (l : Lists). l .count & l .values & l .bounds & l .pcs & x .1 .1 .1 .1)
+exports·lists·oracle-empty κs a x y = two (λ m (l : Lists). tt & m & l .values & l .bounds & l .pcs & x .1 .1 .1 .1 .1)
 
 pub exports·lists·oracle-read : Determined exports.lists.oracle_read.ended exports.lists.oracle_read.Reads.Learnt
-exports·lists·oracle-read κs a x y = one (λ m. tt & m & x .1 .1)
+exports·lists·oracle-read κs a x y = two (λ r m. r & m & x .1 .1)
 
 pub exports·machine·oracle-execute : Determined exports.machine.oracle_execute.ended exports.machine.oracle_execute.Reads.Learnt
 exports·machine·oracle-execute κs a x y = one (λ (g : GivenCall). tt & g .state & g .memory & g .answer & g .check & x .1 .1 .1 .1 .1)

@@ -7,12 +7,11 @@ use refusal::Refusal;
 use state::State;
 ghost use mathlib.Core.Path.{_≡_};
 ghost use mathlib.Core.Bool.{_&&_};
-ghost use lib.Dec.{eqb, leb};
 ghost use Rattle.state.specs.Formed.{registersOf};
 ghost use Rattle.execute.specs.World.{worldOf};
 ghost use Rattle.execute.specs.Execute.{admits};
 ghost use Rattle.execute.specs.Rules.{rulesOf};
-ghost use Rattle.pending.specs.Pending.{lists};
+ghost use Rattle.pending.specs.Pending.{lists, lengthsFit};
 ghost use Rattle.step.specs.Step.{step, oneStep};
 
 pub mod leg; // leg.rt: the loop of a run, over which all runs go
@@ -25,7 +24,7 @@ pub struct OneStep {
 
 // Whether the mode and the lists take such arguments: 9 otherwise.
 pub fn takes(mode: Mode, s: State, values: usize, bounds: usize, pcs: usize, count: usize) -> bool
-    ensures { λ r. ⌜ r ≡ (admits mode (registersOf s) && (eqb bounds values && eqb pcs values && leb count values)) ⌝ }
+    ensures { λ r. ⌜ r ≡ (admits mode (registersOf s) && lengthsFit values bounds pcs count) ⌝ }
 {
     if !execute::admits(mode, &s.regs, &s.accumulated, &s.bounds) {
         return false;

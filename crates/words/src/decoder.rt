@@ -48,7 +48,7 @@ fn low(word: u32) -> u8
 
 // A word taken apart without building the instruction, for a loop that goes by opcode. It stays in registers when inlined, and
 // takes at most three branches: a range test of the number, a jump by form, and at R, Shift and Alone a test of the unused bits.
-pub fn take(word: u32) -> Taken
+fn take(word: u32) -> Taken
     ensures { λ r. ⌜ r ≡ takeIn opcodeNumber word ⌝ }
 {
     match opcode_of(low(word)) {

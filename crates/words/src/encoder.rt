@@ -16,20 +16,13 @@ use refusal::Refusal;
 ghost use mathlib.Core.Path.{_≡_};
 ghost use Prim.Native.Nat.{_%_, _^_};
 ghost use Rattle.opcode.specs.Opcodes.{opcodeNumber};
-ghost use Rattle.words.specs.Words.{partsFit, fitsOf, wordOf, encodedIn, encodeIn};
+ghost use Rattle.words.specs.Words.{partsFit, wordOf, encodedIn, encodeIn};
 
 fn parts_fit(p: Parts) -> bool
     ensures { λ r. ⌜ r ≡ partsFit p ⌝ }
 {
     let op = p.op;
     (p.a < 16) & (p.b < 16) & (p.c < 16) & imm_fits(form_of(op), p.imm)
-}
-
-// Whether the encoder takes an instruction.
-pub fn fits(i: Instruction) -> bool
-    ensures { λ r. ⌜ r ≡ fitsOf i ⌝ }
-{
-    parts_fit(parts_of(i))
 }
 
 fn whole(x: u8) -> u32

@@ -3,9 +3,7 @@ pub mod decoder;
 pub mod encoder;
 
 pub use decoder::decode;
-pub use decoder::take;
 pub use encoder::encode;
-pub use encoder::fits;
 use instruction::Instruction;
 use instruction::Parts;
 use refusal::Refusal;

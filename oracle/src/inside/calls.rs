@@ -89,8 +89,8 @@ impl Call {
             What::Run => subject.run(&mut lent, &mut lists, fuel, mode),
             What::Normalize(limbs) => subject.normalize(lent.state, [lent.answer, second, third], limbs),
             What::Append(entry) => subject.append(first, &mut lists, *entry),
-            What::Empty => subject.empty(&mut lists),
-            What::Read(at) => subject.read(first, &lists, *at),
+            What::Empty => subject.empty(first, &mut lists),
+            What::Read(at) => subject.read([first, second], &lists, *at),
         }
         Left { state, memory, answers, lists }
     }

@@ -9,7 +9,7 @@ use super::{Call, Inside, Left, Lists, OracleInside, What};
 pub struct InsideComparer<'s> {
     subject: &'s dyn Inside,
     pub compared: u64,
-    /// Calls by the code of their answer, but for those that answer none.
+    /// Calls by the code of their answer.
     pub codes: [u64; 66],
     pub appended: u64,
     /// The first difference, shrunk; nothing is compared after it.
@@ -36,9 +36,7 @@ impl<'s> InsideComparer<'s> {
         let right = call.through(&OracleInside);
         self.compared += 1;
         self.appended += right.lists.count.saturating_sub(call.lists.count) as u64;
-        if !matches!(call.what, What::Empty | What::Read(_)) {
-            self.codes[right.code() as usize] += 1;
-        }
+        self.codes[right.code() as usize] += 1;
         if call.through(self.subject) == right {
             return true;
         }

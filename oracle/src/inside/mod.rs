@@ -22,9 +22,10 @@ pub trait Inside {
     fn normalize(&self, state: &mut [u8], answers: [&mut [u8]; 3], limbs: &Limbs);
     /// Writes 0, the count, 0; or the refusal's number, 0, its particular.
     fn append(&self, answer: &mut [u8], lists: &mut Lists, entry: [u64; 3]);
-    fn empty(&self, lists: &mut Lists);
-    /// Writes value, bound and pc of the entry; nothing where there is none.
-    fn read(&self, answer: &mut [u8], lists: &Lists, at: usize);
+    /// Writes the same.
+    fn empty(&self, answer: &mut [u8], lists: &mut Lists);
+    /// Writes code (0 an entry, 64 none), 0, 0, and where there is an entry its value, bound and pc.
+    fn read(&self, answers: [&mut [u8]; 2], lists: &Lists, at: usize);
 }
 
 /// What is lent to a step, beside the lists.

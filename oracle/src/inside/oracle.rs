@@ -15,7 +15,8 @@ use super::{Inside, Lent, Limbs, Lists};
 /// The oracle as its own subject.
 pub struct OracleInside;
 
-const NOT_NEEDED: u64 = 64;
+/// The code where nothing is normalised, or no entry read.
+const NOTHING: u64 = 64;
 
 impl Inside for OracleInside {
     /// One entry of a list shows the check that the instruction asks for.
@@ -46,7 +47,7 @@ impl Inside for OracleInside {
         let zeros = NormalizationResult::new([0; 2], [0; 2], [0; 2]);
         let (code, result) = match normalised(&mut state, limbs) {
             Ok(Some(result)) => (0, result),
-            Ok(None) => (NOT_NEEDED, zeros),
+            Ok(None) => (NOTHING, zeros),
             Err(refusal) => (refusal.number(), zeros),
         };
         write_state(&state, bytes);
@@ -57,12 +58,9 @@ impl Inside for OracleInside {
         write_answer(carries, [first, second, result.total_carry()]);
     }
 
-    /// "Lists of unequal length, or a count beyond them, are malformed"; a full list refuses (8).
+    /// A full list refuses (8).
     fn append(&self, answer: &mut [u8], lists: &mut Lists, [value, bound, pc]: [u64; 3]) {
-        let appended = lists.tracked(|tracker| {
-            if !tracker.is_well_formed() {
-                return Err(Refusal::Malformed);
-            }
+        on_lists(answer, lists, |tracker| {
             if tracker.is_lent() {
                 tracker.defer(Value40::from_u64(value), ValueBound::computed(bound as u32), pc);
             }
@@ -71,24 +69,43 @@ impl Inside for OracleInside {
             }
             Ok(())
         });
-        write_answer(
-            answer,
-            match appended {
-                Ok(()) => [0, lists.count as u64, 0],
-                Err(refusal) => [refusal.number(), 0, refusal.particular()],
-            },
-        );
     }
 
-    fn empty(&self, lists: &mut Lists) {
-        lists.tracked(|tracker| tracker.empty());
+    fn empty(&self, answer: &mut [u8], lists: &mut Lists) {
+        on_lists(answer, lists, |tracker| {
+            tracker.empty();
+            Ok(())
+        });
     }
 
-    fn read(&self, answer: &mut [u8], lists: &Lists, at: usize) {
-        if lists.clone().tracked(|tracker| tracker.is_well_formed()) && at < lists.count {
-            write_answer(answer, [lists.values[at], lists.widths[at] as u64, lists.pcs[at]]);
-        }
+    fn read(&self, [answer, entry]: [&mut [u8]; 2], lists: &Lists, at: usize) {
+        let code = if !lists.clone().tracked(|tracker| tracker.is_well_formed()) {
+            Refusal::Malformed.number()
+        } else if lists.count <= at {
+            NOTHING
+        } else {
+            write_answer(entry, [lists.values[at], lists.widths[at] as u64, lists.pcs[at]]);
+            0
+        };
+        write_answer(answer, [code, 0, 0]);
     }
+}
+
+/// Does it on the lists, and writes 0, the count, 0, or the refusal: "Lists of unequal length, or a count beyond them, are
+/// malformed".
+fn on_lists(
+    answer: &mut [u8],
+    lists: &mut Lists,
+    act: impl FnOnce(&mut RangeCheckTracker) -> Result<(), Refusal>,
+) {
+    let done = lists.tracked(|tracker| if tracker.is_well_formed() { act(tracker) } else { Err(Refusal::Malformed) });
+    write_answer(
+        answer,
+        match done {
+            Ok(()) => [0, lists.count as u64, 0],
+            Err(refusal) => [refusal.number(), 0, refusal.particular()],
+        },
+    );
 }
 
 fn mode_of(number: u64) -> Mode {

@@ -7,8 +7,8 @@ use Rattle.checks.specs.Places.{Fits}
 use Rattle.checks.specs.declared.Pending.{Pending}
 use Rattle.checks.specs.declared.Placed.{Placed}
 use Rattle.checks.proofs.Noting.{valsP, Note, to-note, goes-note}
-use Rattle.pending.proofs.Appended as N
-use Rattle.pending.proofs.Appended.Laws as N′
+use Rattle.pending.proofs.Counted as N
+use Rattle.pending.proofs.Counted.Laws as N′
 use Rattle.checks.proofs.Pending as K
 use Rattle.checks.proofs.Pending.Laws as K′
 use Rattle.checks.proofs.Placed as D

@@ -1,4 +1,4 @@
-use Rattle.pending.specs.declared.Appended.the-variants.{At}
+use Rattle.pending.specs.declared.Counted.the-variants.{Count}
 use Rattle.pending.proofs.Lists.{append-malformed, append-full, append-done}
 use Rattle.pending.specs.Pending.{Lists, lacks}
 use Rattle.pending.specs.declared.Room.{Room}
@@ -23,7 +23,7 @@ same-length-3 : tie.Need-same-length-3
 same-length-3 c = c .before .pcs .given
 
 returns-3 : tie.Need-returns-3
-returns-3 c = let t = append-done _ _ _ _ (sym (c .before .before .before .before .before .before .before .before .before .before .before .before .before .before .lists-fit .ensures) ∙ not-false _ (c .before .before .before .before .before .before .before .before .before .before .before .before .before .if1 .left)) (ap (λ (r : Room). lacks r 1) (sym (c .before .before .before .before .before .before .before .before .before .before .before .before .room-at .ensures)) ∙ sym (c .before .before .before .before .before .before .before .before .before .before .before .lacks .ensures) ∙ c .before .before .before .before .before .before .before .before .before .before .if2 .left) in (ap (λ (l : Lists). At (l .count)) (c .before .before .before .before .before .before .note .ensures) ∙ t .0, rw (t .1, ← c .before .before .before .before .before .before .note .ensures))
+returns-3 c = let t = append-done _ _ _ _ (sym (c .before .before .before .before .before .before .before .before .before .before .before .before .before .before .lists-fit .ensures) ∙ not-false _ (c .before .before .before .before .before .before .before .before .before .before .before .before .before .if1 .left)) (ap (λ (r : Room). lacks r 1) (sym (c .before .before .before .before .before .before .before .before .before .before .before .before .room-at .ensures)) ∙ sym (c .before .before .before .before .before .before .before .before .before .before .before .lacks .ensures) ∙ c .before .before .before .before .before .before .before .before .before .before .if2 .left) in (ap (λ (l : Lists). Count (l .count)) (c .before .before .before .before .before .before .note .ensures) ∙ t .0, rw (t .1, ← c .before .before .before .before .before .before .note .ensures))
 
 pub append-spec : {M : Type 1} → statement M
 append-spec =

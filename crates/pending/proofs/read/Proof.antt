@@ -18,13 +18,13 @@ mul-t7 c = let a = c .before .before .before .before .before .before .args in
     let t = fits-mean (lists (a .count) (now (a .values)) (now (a .bounds)) (now (a .pcs))) (sym (c .before .before .lists-fit .ensures) ∙ not-false _ (c .before .if1 .left)) in
     omega arith
 
-shared-slice-read-t12 : tie.Need-shared-slice-read-t12
-shared-slice-read-t12 c = let a = c .before .before .before .before .before .before .before .args in
+shared-slice-read-t13 : tie.Need-shared-slice-read-t13
+shared-slice-read-t13 c = let a = c .before .before .before .before .before .before .before .args in
     let t = fits-mean (lists (a .count) (now (a .values)) (now (a .bounds)) (now (a .pcs))) (sym (c .before .before .before .lists-fit .ensures) ∙ not-false _ (c .before .before .if1 .left)) in
     omega arith
 
-shared-slice-read-t14 : tie.Need-shared-slice-read-t14
-shared-slice-read-t14 c = let a = c .before .before .before .before .before .before .before .before .args in
+shared-slice-read-t15 : tie.Need-shared-slice-read-t15
+shared-slice-read-t15 c = let a = c .before .before .before .before .before .before .before .before .args in
     let t = fits-mean (lists (a .count) (now (a .values)) (now (a .bounds)) (now (a .pcs))) (sym (c .before .before .before .before .lists-fit .ensures) ∙ not-false _ (c .before .before .before .if1 .left)) in
     omega arith
 
@@ -33,8 +33,8 @@ mul-t8 c = let a = c .before .before .before .before .before .before .before .be
     let t = fits-mean (lists (a .count) (now (a .values)) (now (a .bounds)) (now (a .pcs))) (sym (c .before .before .before .before .lists-fit .ensures) ∙ not-false _ (c .before .before .before .if1 .left)) in
     omega arith
 
-shared-slice-read-t16 : tie.Need-shared-slice-read-t16
-shared-slice-read-t16 c = let a = c .before .before .before .before .before .before .before .before .before .args in
+shared-slice-read-t17 : tie.Need-shared-slice-read-t17
+shared-slice-read-t17 c = let a = c .before .before .before .before .before .before .before .before .before .args in
     let t = fits-mean (lists (a .count) (now (a .values)) (now (a .bounds)) (now (a .pcs))) (sym (c .before .before .before .before .before .lists-fit .ensures) ∙ not-false _ (c .before .before .before .before .if1 .left)) in
     omega arith
 
@@ -49,8 +49,8 @@ read-spec =
     returns
     returns-2
     mul-t7
-    shared-slice-read-t12
-    shared-slice-read-t14
+    shared-slice-read-t13
+    shared-slice-read-t15
     mul-t8
-    shared-slice-read-t16
+    shared-slice-read-t17
     returns-3)

@@ -5,8 +5,8 @@ use Rattle.exports.proofs.lists.oracle_append.Tie as tie
 append-requires : tie.Need-append-requires
 append-requires c κs = tt
 
-appended-requires : tie.Need-appended-requires
-appended-requires c κs = tt
+counted-requires : tie.Need-counted-requires
+counted-requires c κs = tt
 
 write-triple-requires : tie.Need-write-triple-requires
 write-triple-requires c κs = tt
@@ -24,14 +24,14 @@ same-length-4 : tie.Need-same-length-4
 same-length-4 c = search needs
 
 returns : tie.Need-returns
-returns c = (rw (c .before .before .write-triple .ensures, c .before .before .before .appended .ensures, c .before .before .before .before .before .before .before .before .before .before .before .append .ensures .0), c .before .before .before .before .before .before .before .before .before .before .before .append .ensures .1)
+returns c = (rw (c .before .before .write-triple .ensures, c .before .before .before .counted .ensures, c .before .before .before .before .before .before .before .before .before .before .before .append .ensures .0), c .before .before .before .before .before .before .before .before .before .before .before .append .ensures .1)
 
 pub oracle-append-spec : {M : Type 1} → statement M
 oracle-append-spec =
     tie.close
     (tie.spec
     append-requires
-    appended-requires
+    counted-requires
     write-triple-requires
     same-length
     same-length-2
