@@ -224,6 +224,9 @@ pub refusal·particular-at : Determined refusal.particular_at.ended refusal.part
 refusal·particular-at κs a x y = one (λ r. r & x .1)
 
 -- ---- memory
+pub memory·bytes·bit : Determined memory.bytes.bit.ended memory.bytes.bit.Reads.Learnt
+memory·bytes·bit κs a x y = one (λ r. r & x .1)
+
 pub memory·bytes·number-at : Determined memory.bytes.number_at.ended memory.bytes.number_at.Reads.Learnt
 memory·bytes·number-at κs a x y = one (λ r. r & x .1)
 
