@@ -14,7 +14,7 @@ use Rattle.step.specs.Step.{Left, left, step, goesOn, counted}
 use Rattle.step.proofs.Steps.{step-taken}
 use Rattle.run.specs.Run.{Answer, answer, preceded, stopOf, run}
 use Rattle.agreement.specs.Keeping.{Capped}
-use Rattle.agreement.specs.Fuel.{times, takes, Says, Counts}
+use Rattle.agreement.specs.Fuel.{times, takes, StopTells, Counts}
 use Rattle.agreement.specs.Statements.{RunsAreSteps}
 use Rattle.agreement.proofs.Cases.{test-case}
 use Rattle.agreement.proofs.Went.{refused-keeps}
@@ -22,8 +22,8 @@ use Rattle.agreement.proofs.Ready.{Ready, on, run-malformed, run-halted
 
 -- ---- the steps s, of which t are those after the first
 module _ (fuel : ℕ) (s t : ℕ → Left) (start : s 0 .went ≡ W.On) (shift : (i : ℕ) → s (suc i) ≡ t i) where
-  says-later : (n : ℕ) (p : Stop) → Says fuel t n p → Says (suc fuel) s (suc n) p
-  unfolding Says
+  says-later : (n : ℕ) (p : Stop) → StopTells fuel t n p → StopTells (suc fuel) s (suc n) p
+  unfolding StopTells
   says-later n S.Fuel e = (omega arith, rw (shift n) (e .1))
   says-later n S.Ebreak e = rw (shift n) e
   says-later n S.Ecall e = rw (shift n) e
@@ -53,7 +53,7 @@ module _ (fuel : ℕ) (s : ℕ → Left) (start : s 0 .went ≡ W.On) where
   -- a refused one leaves everything as it was
   counts-ended : (g : Went) → s 1 .went ≡ g → goesOn g ≡ false → ((r : Refusal) → g ≡ W.Refused r → (s 1 .world ≡ s 0 .world) × (s 1 .lists ≡ s 0 .lists))
       → Counts (suc fuel) s (answer (stopOf g) (counted g) (s 1 .world) (s 1 .lists))
-  unfolding goesOn stopOf counted Says
+  unfolding goesOn stopOf counted StopTells
   counts-ended W.On e f same = let z : _≡_ {A = ℕ} 0 1 = cc in absurd (omega arith)
   counts-ended W.Ebreak e f same = record { before = alone; stop = e; world = refl; lists = refl }
   counts-ended W.Ecall e f same = record { before = alone; stop = e; world = refl; lists = refl }
@@ -69,7 +69,7 @@ module _ (k : Mode) (R : Rules) (c : Capped (R .notes)) where
   refused-same s t r = rw (← step-taken k R (s .world) (s .lists) t) (refused-keeps k R (s .world) (s .lists) r)
 
   counts : (fuel : ℕ) (s : Left) → s .went ≡ W.On → Ready k (s .world) (s .lists) → Counts fuel (λ n. times n k R s) (run k R fuel (s .world) (s .lists))
-  unfolding times Says
+  unfolding times StopTells
   counts zero s e ready =
       rw (run-none k R c (s .world) (s .lists) ready)
       record { before = λ i h. absurd (omega arith); stop = (refl, e); world = refl; lists = refl }

@@ -23,7 +23,7 @@ use Rattle.lent.specs.Lent.{lentStep, laid, stateOfLent, lentServed, recordAfte
 use Rattle.lent.specs.Lent as L
 use Rattle.lent.specs.declared.exported.Lent.{Lent}
 use Rattle.agreement.specs.Contracts.{worldStepped, listsStepped, worldExecuted}
-use Rattle.agreement.specs.ByHand.{kept, lentGiven}
+use Rattle.agreement.specs.ByHand.{changeable, lentGiven}
 use Rattle.agreement.specs.Keeping.{Restores, Undoes}
 use Rattle.agreement.specs.Statements.{StepCallsRestore, GivenCallsUndo, RecordStepsRestore, StepsInPlaceRestore, LentStepsRestore}
 use Rattle.agreement.proofs.Cases.{cond-case}
@@ -42,11 +42,11 @@ given-calls-undo κs a x p =
     subst⁻¹ (λ (s : Stepped). Undoes s w) p (refused-given-undo (a .0 .mode) (rulesOf (a .0) .notes) (a .1 .0) w)
 
 -- ---- over records
-same-kept : {S : Type 0} {s t : S} {m m′ : List ℕ} {k l : List Pending} {n c : ℕ} → s ≡ t → m ≡ m′ → listed n k ≡ listed c l → kept s m k n ≡ kept t m′ l c
+same-kept : {S : Type 0} {s t : S} {m m′ : List ℕ} {k l : List Pending} {n c : ℕ} → s ≡ t → m ≡ m′ → listed n k ≡ listed c l → changeable s m k n ≡ changeable t m′ l c
 same-kept {k = k} {l = l} {n = n} {c = c} p q r = let e = listed-injective n c k l r in rw (p, q, e .0, e .1)
 
 same-records : {g : Went} {s t : State} {m m′ : List ℕ} {k l : List Pending} {n c : ℕ}
-    → Restores (left g (worldOf s m) (listed n k)) (worldOf t m′) (listed c l) → (r : Refusal) → g ≡ W.Refused r → kept s m k n ≡ kept t m′ l c
+    → Restores (left g (worldOf s m) (listed n k)) (worldOf t m′) (listed c l) → (r : Refusal) → g ≡ W.Refused r → changeable s m k n ≡ changeable t m′ l c
 same-records h r e =
     let x = h r e in
     same-kept (ap stateOf (x .0)) (ap (λ (w : World). w .memory) (x .0)) (x .1)

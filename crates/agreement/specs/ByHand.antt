@@ -39,14 +39,14 @@ Says T clauses told =
     → clauses M 𝓤 H A m run κs a .ensures g r e ≡ connectives 𝓤 .⌜_⌝ (told κs a r e)
 
 -- all that a step over records can change; S is the type of its state
-pub record Kept (S : Type 0) : Type 0 where
+pub record Changeable (S : Type 0) : Type 0 where
   pub state : S
   pub memory : List ℕ
   pub list : List Pending
   pub count : ℕ
 
-abbrev pub kept : {S : Type 0} → S → List ℕ → List Pending → ℕ → Kept S
-kept s m l n = record { state = s; memory = m; list = l; count = n }
+abbrev pub changeable : {S : Type 0} → S → List ℕ → List Pending → ℕ → Changeable S
+changeable s m l n = record { state = s; memory = m; list = l; count = n }
 
 -- ---- `checked::step`: choices, state, memory, list, count
 abbrev pub steps : Telling checked·step.ended
@@ -55,11 +55,11 @@ steps κs a r e =
     ≡ step (a .0 .mode) (rulesOf (a .0)) (worldOf (a .1 .0) (now (a .1 .1 .0))) (listed (a .1 .1 .1 .1 .0) (now (a .1 .1 .1 .0)))
 
 module _ (κs : Lfts 2) (a : Args checked·step.signature κs) where
-  abbrev pub recordsGiven : Kept State
-  recordsGiven = kept (a .1 .0) (now (a .1 .1 .0)) (now (a .1 .1 .1 .0)) (a .1 .1 .1 .1 .0)
+  abbrev pub recordsGiven : Changeable State
+  recordsGiven = changeable (a .1 .0) (now (a .1 .1 .0)) (now (a .1 .1 .1 .0)) (a .1 .1 .1 .1 .0)
 
-  abbrev pub recordsAfter : Leaves checked·step.ended κs a → Kept State
-  recordsAfter x = kept (x .0 .state) (x .1 .1 .1 .0) (x .1 .1 .1 .1 .0) (x .0 .count)
+  abbrev pub recordsAfter : Leaves checked·step.ended κs a → Changeable State
+  recordsAfter x = changeable (x .0 .state) (x .1 .1 .1 .0) (x .1 .1 .1 .1 .0) (x .0 .count)
 
 -- ---- `lent::step_in_place`: state, choices, memory, list, count
 abbrev pub stepsInPlace : Telling step_in_place.ended
@@ -68,11 +68,11 @@ stepsInPlace κs a r e =
     ≡ step (a .1 .0 .mode) (rulesOf (a .1 .0)) (worldOf (now (a .0)) (now (a .1 .1 .0))) (listed (a .1 .1 .1 .1 .0) (now (a .1 .1 .1 .0)))
 
 module _ (κs : Lfts 3) (a : Args step_in_place.signature κs) where
-  abbrev pub placeGiven : Kept State
-  placeGiven = kept (now (a .0)) (now (a .1 .1 .0)) (now (a .1 .1 .1 .0)) (a .1 .1 .1 .1 .0)
+  abbrev pub placeGiven : Changeable State
+  placeGiven = changeable (now (a .0)) (now (a .1 .1 .0)) (now (a .1 .1 .1 .0)) (a .1 .1 .1 .1 .0)
 
-  abbrev pub placeAfter : Leaves step_in_place.ended κs a → Kept State
-  placeAfter x = kept (x .1 .0) (x .1 .1 .1 .0) (x .1 .1 .1 .1 .0) (x .0 .count)
+  abbrev pub placeAfter : Leaves step_in_place.ended κs a → Changeable State
+  placeAfter x = changeable (x .1 .0) (x .1 .1 .1 .0) (x .1 .1 .1 .1 .0) (x .0 .count)
 
 -- ---- `lent::exported::zkir_step`: state, memory, list, count, mode
 abbrev pub stepsLent : Telling zkir_step.ended
@@ -81,8 +81,8 @@ stepsLent κs a r e =
     ≡ stepLent (a .1 .1 .1 .1 .0) (now (a .0)) (now (a .1 .0)) (listed (a .1 .1 .1 .0) (now (a .1 .1 .0)))
 
 module _ (κs : Lfts 3) (a : Args zkir_step.signature κs) where
-  abbrev pub lentGiven : Kept Lent
-  lentGiven = kept (now (a .0)) (now (a .1 .0)) (now (a .1 .1 .0)) (a .1 .1 .1 .0)
+  abbrev pub lentGiven : Changeable Lent
+  lentGiven = changeable (now (a .0)) (now (a .1 .0)) (now (a .1 .1 .0)) (a .1 .1 .1 .0)
 
-  abbrev pub lentAfter : Leaves zkir_step.ended κs a → Kept Lent
-  lentAfter x = kept (x .1 .0) (x .1 .1 .0) (x .1 .1 .1 .0) (x .0 .count)
+  abbrev pub lentAfter : Leaves zkir_step.ended κs a → Changeable Lent
+  lentAfter x = changeable (x .1 .0) (x .1 .1 .0) (x .1 .1 .1 .0) (x .0 .count)

@@ -28,16 +28,16 @@ abbrev pub takes : Mode → World → Lists → Bool
 takes k w l = admits k (w .registers) && listsFit l
 
 -- what a run's stop says of its last step, the n-th, and of the next; s i is the i-th
-unfoldable pub Says : ℕ → (ℕ → Left) → ℕ → Stop → Type 0
-Says fuel s n S.Fuel = (n ≡ fuel) × (s n .went ≡ W.On)
-Says fuel s n S.Ebreak = s n .went ≡ W.Ebreak
-Says fuel s n S.Ecall = s n .went ≡ W.Ecall
-Says fuel s n (S.Refused r) = (n < fuel) × (s n .went ≡ W.On) × (s (suc n) .went ≡ W.Refused r)
+unfoldable pub StopTells : ℕ → (ℕ → Left) → ℕ → Stop → Type 0
+StopTells fuel s n S.Fuel = (n ≡ fuel) × (s n .went ≡ W.On)
+StopTells fuel s n S.Ebreak = s n .went ≡ W.Ebreak
+StopTells fuel s n S.Ecall = s n .went ≡ W.Ecall
+StopTells fuel s n (S.Refused r) = (n < fuel) × (s n .went ≡ W.On) × (s (suc n) .went ≡ W.Refused r)
 
 -- "The answer counts completed instructions": all before the last went on, the last went as the stop says, and what they leave is left
 pub record Counts (fuel : ℕ) (s : ℕ → Left) (a : Answer) : Type 0 where
   pub before : (i : ℕ) → i < a .steps → s i .went ≡ W.On
-  pub stop : Says fuel s (a .steps) (a .stop)
+  pub stop : StopTells fuel s (a .steps) (a .stop)
   pub world : a .world ≡ s (a .steps) .world
   pub lists : a .lists ≡ s (a .steps) .lists
 
