@@ -294,6 +294,32 @@ pub fn normalise(state: &mut VMState, register: Register) -> Option<Normalizatio
     state.normalize_register(register, NORMALIZED_BITS, LIMB_BITS)
 }
 
+/// `normalize_register` by itself: limbs of 2^30 or more are refused (9), as `normalize_and_write` refuses them.
+pub fn normalize_register(state: &mut VMState, register: Register) -> Result<Option<NormalizationResult>, Refusal> {
+    if holds_too_much(state, register) {
+        return Err(Refusal::Malformed);
+    }
+    Ok(normalise(state, register))
+}
+
+/// `normalize_if_near_overflow`: the same, where the text would normalise.
+pub fn normalize_if_near_overflow(
+    state: &mut VMState,
+    register: Register,
+) -> Result<Option<NormalizationResult>, Refusal> {
+    if holds_too_much(state, register) {
+        return Err(Refusal::Malformed);
+    }
+    Ok(state.normalize_if_near_overflow(register, NORMALIZED_BITS, LIMB_BITS))
+}
+
+fn holds_too_much(state: &VMState, register: Register) -> bool {
+    match state.register_states.get(register) {
+        Held::Accumulated(limbs) => register != Register::R0 && VMState::would_overflow(limbs, LIMB_BITS),
+        Held::Whole(_) => false,
+    }
+}
+
 /// `normalize_and_write` "itself answers zeros for R0, then refuses (9) limbs of 2^30 or more; it too keeps the bound."
 pub fn normalize_and_write(
     state: &mut VMState,

@@ -2,7 +2,7 @@
 
 use std::panic::catch_unwind;
 
-use oracle::machine::{normalize_and_write, Machine, Mode};
+use oracle::machine::{normalize_and_write, normalize_if_near_overflow, normalize_register, Machine, Mode};
 use oracle::refusal::Refusal;
 use oracle::tally::Tally;
 use zkir_runtime::deferred::{execute_sub_deferred, DeferredConfig};
@@ -144,6 +144,18 @@ fn limbs_that_are_too_large() {
         assert_eq!(VMState::fresh().normalize_and_write(R1, [low, 0], 20).normalized, normalized);
         assert_eq!(normalize_and_write(&mut VMState::fresh(), R1, [low, 0]), Err(Refusal::Malformed));
     }
+}
+
+/// R1 accumulated with limbs 0 and 40000000: the text normalises it, asked in either way; 01 allows no such register (9).
+#[test]
+fn a_register_of_limbs_that_are_too_large() {
+    let held = r1(Held::Accumulated([0, 1 << 30]));
+    let [mut first, mut second, mut state] = [held; 3];
+    assert!(first.normalize_register(R1, 20, 30).is_some());
+    assert!(second.normalize_if_near_overflow(R1, 20, 30).is_some());
+    assert_eq!(normalize_register(&mut state, R1), Err(Refusal::Malformed));
+    assert_eq!(normalize_if_near_overflow(&mut state, R1), Err(Refusal::Malformed));
+    assert_eq!(state, held);
 }
 
 /// A whole register of 2^40: the text's observation cuts it to 0; 01 lets normalising do nothing to it.

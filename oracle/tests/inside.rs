@@ -34,6 +34,9 @@ fn every_kind_of_call_is_made_on_lists_of_every_kind() {
         made(&|call| call.what == what && call.lists.count == call.lists.values.len());
         made(&|call| call.what == what && call.lists.count < call.lists.values.len());
     }
+    let malformed = |call: &Call| !call.lists.clone().tracked(|tracker| tracker.is_well_formed());
+    made(&|call| call.what == What::Empty && malformed(call));
+    made(&|call| matches!(call.what, What::Read(_)) && malformed(call));
     made(&|call| call.lists.values.len() != call.lists.pcs.len());
     made(&|call| call.lists.values.len() != call.lists.widths.len());
     made(&|call| call.lists.count > call.lists.values.len());
@@ -154,4 +157,25 @@ fn an_append_that_counts_where_no_list_is_lent() {
         }
     });
     assert_eq!(difference.call.lists, Lists::empty_of(0));
+}
+
+#[test]
+fn malformed_lists_that_are_emptied() {
+    let difference = found(|what, lent, lists| {
+        if what == What::Empty && number(lent.answer, 0) == 9 {
+            lists.count = 0;
+        }
+    });
+    let Lists { values, count, .. } = &difference.call.lists;
+    assert!(*count > 0 && values.len() <= 1, "{difference}");
+}
+
+#[test]
+fn malformed_lists_that_are_read_as_without_an_entry() {
+    let difference = found(|what, lent, _| {
+        if matches!(what, What::Read(_)) && number(lent.answer, 0) == 9 {
+            put_number(lent.answer, 0, 64);
+        }
+    });
+    assert_eq!(difference.oracle.code(), 9, "{difference}");
 }

@@ -1,11 +1,11 @@
 -- Exact normalising carried to the code, through the contract of `normalize_register`.
-use Prim.Native.Nat.{ℕ, _%_, _^_, _<_}
+use Prim.Native.Nat.{ℕ, _^_, _<_}
 use mathlib.Core.Path.{_≡_, refl, sym, subst, _∙_}
-use mathlib.Core.Bool.{false}
+use mathlib.Core.Bool.{true, false}
 use mathlib.Core.Logic.{_≢_}
 use native.Mathlib.Omega.{arith}
 use borrow.Author.Tests.{lt-ltb, ne-eqb, lt-leb}
-use Rattle.state.specs.Held.{Limbs, lowOf, highOf, waits, settled}
+use Rattle.state.specs.Held.{Held, Limbs, lowOf, highOf, waits, settled}
 use Rattle.state.specs.Registers.{Registers, holds, normalise}
 use Rattle.state.specs.Formed.{wellFormed, registersOf}
 use Rattle.state.specs.declared.State.{State}
@@ -18,7 +18,7 @@ use Rattle.agreement.proofs.Normalised.{not-zero, normalised}
 fitting : (R : Registers) (n low high : ℕ) → Formed R → holds R n ≡ Limbs low high → wouldOverflow low high ≡ false
 unfolding lowOf highOf
 fitting R n low high f e =
-    let small : (low < 2 ^ 30) × (high < 2 ^ 30) = rw (← e) (f .small n) in
+    let small : (low < 2 ^ 30) × (high < 2 ^ 30) = subst (λ (h : Held). (lowOf h < 2 ^ 30) × (highOf h < 2 ^ 30)) e (f .small n) in
     rw (lt-leb (2 ^ 30) low (small .0), lt-leb (2 ^ 30) high (small .1))
 
 -- what the definition says of such a register

@@ -5,7 +5,7 @@ use zkir_runtime::state::VMState;
 use zkir_spec::{Opcode, Register, Value40, ValueBound};
 
 use crate::layout::{read_state, write_answer, write_state};
-use crate::machine::{normalise, normalize_and_write, Machine, Mode, Onward};
+use crate::machine::{normalize_and_write, normalize_if_near_overflow, normalize_register, Machine, Mode, Onward};
 use crate::numbers::instruction;
 use crate::refusal::{Refusal, Stop};
 use crate::tally::Tally;
@@ -93,11 +93,7 @@ impl Inside for OracleInside {
 
 /// Does it on the lists, and writes 0, the count, 0, or the refusal: "Lists of unequal length, or a count beyond them, are
 /// malformed".
-fn on_lists(
-    answer: &mut [u8],
-    lists: &mut Lists,
-    act: impl FnOnce(&mut RangeCheckTracker) -> Result<(), Refusal>,
-) {
+fn on_lists(answer: &mut [u8], lists: &mut Lists, act: impl FnOnce(&mut RangeCheckTracker) -> Result<(), Refusal>) {
     let done = lists.tracked(|tracker| if tracker.is_well_formed() { act(tracker) } else { Err(Refusal::Malformed) });
     write_answer(
         answer,
@@ -140,8 +136,8 @@ fn on_machine(lent: &mut Lent, lists: &mut Lists, act: impl FnOnce(&mut Machine)
 fn normalised(state: &mut VMState, limbs: &Limbs) -> Result<Option<NormalizationResult>, Refusal> {
     let register = Register(limbs.register);
     match limbs.which {
-        0 => Ok(normalise(state, register)),
-        1 => Ok(state.normalize_if_near_overflow(register, 20, 30)),
+        0 => normalize_register(state, register),
+        1 => normalize_if_near_overflow(state, register),
         _ => normalize_and_write(state, register, limbs.limbs).map(Some),
     }
 }

@@ -1,6 +1,6 @@
 -- `checks::read` meets its contract: a walk of its MIR, by hand. Two branches, whose one arm answers each, hold the count to the slice's length and the place to the count; past them the slice is looked into, the record is copied out, and the slice is shut again.
 -- Assumes nothing.
-use Rattle.walks.proofs.Walk.{ !, AllGo, Atoms, Calls, Fun, GName, Given, Heap, Is, Lft, List, Loops, Meets, Memory, RefT, Room, Routine, SProp, Share, ShrSlice, Stays, Tables, URA, Val, Walks, WpFn, WpFn-mono, [], _$_, _*_, _<_, _^_, _∵_, _∷_, _≡_, _⊛_, agg, alloc0, alloc1, and-then, arith, assigns, atRet, bin, branches, by, done, elem-back, elem-out, emp, ends-at, ent, enter, entered, exec, fact, fat, first, fjoin, fld, flft, forget, frame, free0, free1, from, fsplit, fst∗, ftrue, fullShare, getD, givenOf, goes-none, goes-none-slice, hop, init, join, length, lit, load, look, look-in, look-raw, looks-slice, mem, move, named, no-more, nothing, of-opd, onEntry, owned, owns, params1, pass0, pass1, place-is, plain, qed, refl, returns, returns-within, rewrite, says, shows, shr-slice-tells, shuts-slice, skips, slice-vals, sliceVal, split, stay-none, stay-none-slice, stop, store, sub, suffices, sym, tables, tablesOf, tripleOf, tyPtr, uint-tells, uint-vals, usize, via, vint, vptr, w64, walk-meets, walkOf, walked, whole, yes, ‵, ℕ}
+use Rattle.walks.proofs.Walk.{ !, AllGo, Atoms, Calls, Fun, GName, Given, Heap, Is, Lft, List, Loops, Meets, Memory, RefT, Room, Routine, SProp, Share, ShrSlice, Stays, Tables, URA, Val, Walks, WpFn, WpFn-mono, [], _$_, _*_, _<_, _^_, _∵_, _∷_, _≡_, _⊛_, agg, alloc0, alloc1, and-then, arith, assigns, atRet, bin, branches, by, done, elem-back, elem-out, emp, ends-at, ent, enter, entered, exec, fat, first, fjoin, fld, flft, forget, frame, free0, free1, from, fsplit, fst∗, ftrue, fullShare, getD, givenOf, goes-none, goes-none-slice, hop, init, join, length, lit, load, look, look-in, look-raw, looks-slice, mem, move, named, no-more, of-opd, onEntry, owned, owns, params1, pass0, pass1, place-is, plain, qed, refl, returns, returns-within, rewrite, says, shows, shr-slice-tells, shuts-slice, skips, slice-vals, sliceVal, split, stay-none, stay-none-slice, stop, store, sub, suffices, sym, tables, tablesOf, tripleOf, tyPtr, uint-tells, uint-vals, usize, via, vint, vptr, w64, walk-meets, walkOf, walked, whole, yes, ‵, ℕ}
 use Rattle.walks.proofs.Tests.{holds, fails}
 use mir.Syntax.{Local, local, Ty}
 use denote.Struct.Laws as LL
