@@ -1,4 +1,4 @@
-// With ZKIR_EXPORTS naming static libraries of the crates `singles` and `exports`, a colon between them, they are linked, and
+// With ZKIR_EXPORTS naming static libraries of the crates `singles`, `exports` and `machines`, a colon between them, they are linked, and
 // the functions that the host call does not reach are compared too; a relative path counts from the repository's root.
 
 use std::env;

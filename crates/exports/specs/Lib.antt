@@ -2,4 +2,3 @@ pub mod Triples
 pub mod Coding
 pub mod Limbs
 pub mod Lists
-pub mod Machine

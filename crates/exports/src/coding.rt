@@ -56,7 +56,7 @@ fn encoded(e: Encoded) -> u64
     }
 }
 
-pub(crate) fn given(opcode: u8, a: u8, b: u8, c: u8, imm: u64) -> Instruction
+pub fn given(opcode: u8, a: u8, b: u8, c: u8, imm: u64) -> Instruction
     ensures { λ r. ⌜ r ≡ givenOf (opcodeIn opcodeNumber opcode) a b c imm ⌝ }
 {
     match opcode::opcode_of(opcode) {

@@ -3,5 +3,4 @@
 pub mod coding; // coding.rt: decoder and encoder
 pub mod limbs; // limbs.rt: normalize.rs
 pub mod lists; // lists.rt: pending checks
-pub mod machine; // machine.rt: one given instruction, one step, and a run with lists
-mod triple; // triple.rt: three numbers in bytes
+pub mod triple; // triple.rt: three numbers in bytes

@@ -4,16 +4,16 @@ use refusal::Refusal;
 ghost use mathlib.Core.Path.{_≡_};
 ghost use Rattle.exports.specs.Triples.{tripled, refusalTriple};
 
-pub(crate) const TRIPLE_BYTES: usize = 24;
+const TRIPLE_BYTES: usize = 24;
 
-pub(crate) struct Triple {
+pub struct Triple {
     pub first: u64,
     pub second: u64,
     pub third: u64,
 }
 
 // Bytes of another length aren't written.
-pub(crate) fn write_triple(bytes: &mut [u8], t: Triple)
+pub fn write_triple(bytes: &mut [u8], t: Triple)
     ensures { λ _. ⌜ now (bytes .exit) ≡ tripled t (now (bytes .entry)) ⌝ }
 {
     if bytes.len() != TRIPLE_BYTES {
@@ -24,7 +24,7 @@ pub(crate) fn write_triple(bytes: &mut [u8], t: Triple)
     put_number(bytes, 16, 8, t.third);
 }
 
-pub(crate) fn refused(r: Refusal) -> Triple
+pub fn refused(r: Refusal) -> Triple
     ensures { λ t. ⌜ t ≡ refusalTriple r ⌝ }
 {
     Triple {

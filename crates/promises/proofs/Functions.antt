@@ -25,6 +25,7 @@ use Rattle.run.proofs as run
 use Rattle.host.proofs as host
 use Rattle.singles.proofs as singles
 use Rattle.exports.proofs as exports
+use Rattle.machines.proofs as machines
 use Rattle.state.specs.Registers.{Registers}
 use Rattle.deferred.specs.Limbs.{Limbed}
 use Rattle.execute.specs.World.{Stepped}
@@ -33,14 +34,15 @@ use Rattle.step.specs.Step.{Left}
 use Rattle.run.specs.Run.{Answer}
 use Rattle.step.specs.Leg.{Leg}
 use Rattle.host.specs.Call.{Called}
-use Rattle.exports.specs.Machine.{GivenCall}
+use Rattle.exports.specs.Limbs.{LimbCall}
+use Rattle.machines.specs.Machine.{GivenCall, MachineCall}
 use Rattle.promises.specs.Determined.{Determined}
 use Rattle.effect.specs.declared.registers.Deed.{Deed}
 use Rattle.effect.specs.declared.immediate.Turn.{Turn}
 use Rattle.promises.proofs.Laws.{one, two, _&_}
 use Rattle.promises.proofs.Asked.{asked}
 use Rattle.promises.proofs.Tables.{one-deed, one-turn, one-shift}
-use Rattle.promises.proofs.Regrouped.{advanceOf, executedOf, oneStepOf, ranOf, goneOf, LimbsLeft, MachineLeft}
+use Rattle.promises.proofs.Regrouped.{advanceOf, executedOf, oneStepOf, ranOf, goneOf}
 
 -- ---- encoding
 pub encoding·fields·extract-opcode : Determined encoding.fields.extract_opcode.ended encoding.fields.extract_opcode.Reads.Learnt
@@ -625,8 +627,11 @@ exports·coding·oracle-decode κs a x y = one (λ m. tt & m & x .1 .1)
 pub exports·coding·oracle-encode : Determined exports.coding.oracle_encode.ended exports.coding.oracle_encode.Reads.Learnt
 exports·coding·oracle-encode κs a x y = one (λ r. r & x .1)
 
+pub exports·coding·given : Determined exports.coding.given.ended exports.coding.given.Reads.Learnt
+exports·coding·given κs a x y = one (λ r. r & x .1)
+
 pub exports·limbs·oracle-normalize : Determined exports.limbs.oracle_normalize.ended exports.limbs.oracle_normalize.Reads.Learnt
-exports·limbs·oracle-normalize κs a x y = one (λ (l : LimbsLeft). tt & l .state & l .before & l .after & l .carries & x .1 .1 .1 .1 .1)
+exports·limbs·oracle-normalize κs a x y = one (λ (l : LimbCall). tt & l .state & l .before & l .after & l .carries & x .1 .1 .1 .1 .1)
 
 pub exports·limbs·oracle-would-overflow : Determined exports.limbs.oracle_would_overflow.ended exports.limbs.oracle_would_overflow.Reads.Learnt
 exports·limbs·oracle-would-overflow κs a x y = one (λ r. r & x .1)
@@ -640,11 +645,18 @@ exports·lists·oracle-empty κs a x y = two (λ m (l : Lists). tt & m & l .valu
 pub exports·lists·oracle-read : Determined exports.lists.oracle_read.ended exports.lists.oracle_read.Reads.Learnt
 exports·lists·oracle-read κs a x y = two (λ r m. r & m & x .1 .1)
 
-pub exports·machine·oracle-execute : Determined exports.machine.oracle_execute.ended exports.machine.oracle_execute.Reads.Learnt
-exports·machine·oracle-execute κs a x y = one (λ (g : GivenCall). tt & g .state & g .memory & g .answer & g .check & x .1 .1 .1 .1 .1)
+pub exports·triple·refused : Determined exports.triple.refused.ended exports.triple.refused.Reads.Learnt
+exports·triple·refused κs a x y = one (λ r. r & x .1)
 
-pub exports·machine·oracle-step : Determined exports.machine.oracle_step.ended exports.machine.oracle_step.Reads.Learnt
-exports·machine·oracle-step κs a x y = one (λ (l : MachineLeft). l .lists .count & l .state & l .memory & l .answer & l .lists .values & l .lists .bounds & l .lists .pcs & x .1 .1 .1 .1 .1 .1 .1)
+pub exports·triple·write-triple : Determined exports.triple.write_triple.ended exports.triple.write_triple.Reads.Learnt
+exports·triple·write-triple κs a x y = one (λ m. tt & m & x .1 .1)
 
-pub exports·machine·oracle-run : Determined exports.machine.oracle_run.ended exports.machine.oracle_run.Reads.Learnt
-exports·machine·oracle-run κs a x y = one (λ (l : MachineLeft). l .lists .count & l .state & l .memory & l .answer & l .lists .values & l .lists .bounds & l .lists .pcs & x .1 .1 .1 .1 .1 .1 .1)
+-- ---- machines
+pub machines·oracle-execute : Determined machines.oracle_execute.ended machines.oracle_execute.Reads.Learnt
+machines·oracle-execute κs a x y = one (λ (g : GivenCall). tt & g .state & g .memory & g .answer & g .check & x .1 .1 .1 .1 .1)
+
+pub machines·oracle-step : Determined machines.oracle_step.ended machines.oracle_step.Reads.Learnt
+machines·oracle-step κs a x y = one (λ (l : MachineCall). l .lists .count & l .state & l .memory & l .answer & l .lists .values & l .lists .bounds & l .lists .pcs & x .1 .1 .1 .1 .1 .1 .1)
+
+pub machines·oracle-run : Determined machines.oracle_run.ended machines.oracle_run.Reads.Learnt
+machines·oracle-run κs a x y = one (λ (l : MachineCall). l .lists .count & l .state & l .memory & l .answer & l .lists .values & l .lists .bounds & l .lists .pcs & x .1 .1 .1 .1 .1 .1 .1)

@@ -11,8 +11,6 @@ use Rattle.step.specs.declared.OneStep.{OneStep}
 use Rattle.run.specs.declared.Ran.{Ran}
 use Rattle.host.specs.Call.{stateOf}
 use Rattle.lent.specs.declared.InPlace.{InPlace}
-use Rattle.exports.specs.Limbs as Limbs
-use Rattle.exports.specs.Machine as Machine
 
 abbrev pub advanceOf : Stepped → Checks → Advance
 advanceOf s cs = record { went = s .went; pc = s .world .pc; halted = s .world .halted; checks = cs }
@@ -31,10 +29,3 @@ goneOf l cs = record { went = l .went; steps = l .steps; checks = cs; pc = l .pc
 
 abbrev pub outcomeOf : Left → InPlace
 outcomeOf l = record { went = l .went; count = l .lists .count }
-
--- two that go by one name
-abbrev pub LimbsLeft : Type 0
-LimbsLeft = Limbs.Lent
-
-abbrev pub MachineLeft : Type 0
-MachineLeft = Machine.Lent

@@ -11,7 +11,7 @@ use crate::call::count_after;
 use crate::call::number_at;
 use crate::call::onward;
 use crate::call::places_of;
-use exports::machine::oracle_run;
+use machines::oracle_run;
 ghost use Rattle.io.specs.Counts.{Counts};
 
 pub struct Compared {

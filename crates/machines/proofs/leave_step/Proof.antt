@@ -1,6 +1,6 @@
 use borrow.Author.Needs.{needs}
-use Rattle.exports.proofs.machine.leave_step.Statement.{statement}
-use Rattle.exports.proofs.machine.leave_step.Tie as tie
+use Rattle.machines.proofs.leave_step.Statement.{statement}
+use Rattle.machines.proofs.leave_step.Tie as tie
 
 stop-of-requires : tie.Need-stop-of-requires
 stop-of-requires c κs = tt

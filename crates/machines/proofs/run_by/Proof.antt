@@ -1,6 +1,6 @@
 use borrow.Author.Needs.{needs}
-use Rattle.exports.proofs.machine.run_by.Statement.{statement}
-use Rattle.exports.proofs.machine.run_by.Tie as tie
+use Rattle.machines.proofs.run_by.Statement.{statement}
+use Rattle.machines.proofs.run_by.Tie as tie
 
 enum-told : tie.Need-enum-told
 enum-told c = search needs

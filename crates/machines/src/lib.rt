@@ -1,12 +1,12 @@
-// One given instruction, one step, and a run with the three lists, over the bytes of a state: `execute`, `step` and `run`. Bytes
-// that are no state's and modes other than 0 and 1 are refused (9).
-use crate::coding;
-use crate::triple::Triple;
-use crate::triple::refused;
-use crate::triple::write_triple;
+// One given instruction, one step, and a run with the three lists, over the bytes of a state, exported for the comparison with the
+// Rust: `execute`, `step` and `run`. Bytes that are no state's and modes other than 0 and 1 are refused (9).
 use execute::Choices;
 use execute::Mode;
 use execute::Went;
+use exports::coding;
+use exports::triple::Triple;
+use exports::triple::refused;
+use exports::triple::write_triple;
 use host::mode_of;
 use layout::answer::write_answer;
 use layout::laid::well_laid;
@@ -25,9 +25,9 @@ ghost use Rattle.pending.specs.Pending.{lists, checksOf};
 ghost use Rattle.run.specs.Run.{run, ran};
 ghost use Rattle.layout.specs.Layout.{STATE_BYTES, stateBytes, written};
 ghost use Rattle.layout.specs.Answer.{ANSWER_BYTES};
 ghost use Rattle.exports.specs.Triples.{tripled};
 ghost use Rattle.exports.specs.Coding.{givenOf};
-ghost use Rattle.exports.specs.Machine.{wentTriple, checkTriple, stopBytes, legible, givenCall, executing, machineCall, stepping, running};
+ghost use Rattle.machines.specs.Machine.{wentTriple, checkTriple, stopBytes, legible, givenCall, executing, machineCall, stepping, running};
 
 // Whether the bytes are a state's and the number a mode's.
 fn legible(state: &[u8], mode: u64) -> bool

@@ -18,9 +18,9 @@ use Rattle.run.specs.Run.{Answer, run}
 use Rattle.layout.specs.Layout.{STATE_BYTES, stateBytes, stateIn, written}
 use Rattle.layout.specs.Answer.{ANSWER_BYTES}
 use Rattle.host.specs.Call.{modeOf, stateOf}
 use Rattle.exports.specs.declared.triple.Triple.{Triple}
 use Rattle.exports.specs.Triples.{tripled, refusalTriple}
-use Rattle.exports.specs.Machine.{legible, wentTriple, checkTriple, stopBytes, givenCall, executing, machineCall, stepping, running}
+use Rattle.machines.specs.Machine.{legible, wentTriple, checkTriple, stopBytes, givenCall, executing, machineCall, stepping, running}
 
 module _ (st m an an′ : List ℕ) (mode : ℕ) where
   module _ (ck ck′ : List ℕ) (j : Instruction) (u : Triple) where

@@ -1,6 +1,6 @@
 use borrow.Author.Needs.{needs}
-use Rattle.exports.proofs.machine.first_of.Statement.{statement}
-use Rattle.exports.proofs.machine.first_of.Tie as tie
+use Rattle.machines.proofs.first_of.Statement.{statement}
+use Rattle.machines.proofs.first_of.Tie as tie
 
 enum-told : tie.Need-enum-told
 enum-told c = search needs

@@ -1,6 +1,6 @@
 use borrow.Author.Needs.{needs}
-use Rattle.exports.proofs.machine.leave_run.Statement.{statement}
-use Rattle.exports.proofs.machine.leave_run.Tie as tie
+use Rattle.machines.proofs.leave_run.Statement.{statement}
+use Rattle.machines.proofs.leave_run.Tie as tie
 
 write-state-requires : tie.Need-write-state-requires
 write-state-requires c κs = tt

@@ -1,9 +1,9 @@
-use Rattle.exports.proofs.Leaving.{execute-refused, execute-left}
+use Rattle.machines.proofs.Leaving.{execute-refused, execute-left}
 use borrow.Author.Tests.{not-true, not-false}
 use mathlib.Core.Path.{sym, _∙_}
 use borrow.Author.Needs.{needs}
-use Rattle.exports.proofs.machine.oracle_execute.Statement.{statement}
-use Rattle.exports.proofs.machine.oracle_execute.Tie as tie
+use Rattle.machines.proofs.oracle_execute.Statement.{statement}
+use Rattle.machines.proofs.oracle_execute.Tie as tie
 
 legible-requires : tie.Need-legible-requires
 legible-requires c κs = tt

@@ -1,8 +1,8 @@
-use Rattle.exports.specs.Machine.{legible}
+use Rattle.machines.specs.Machine.{legible}
 use borrow.Author.Tests.{le-leb, lt-leb}
 use native.Mathlib.Omega.{arith}
-use Rattle.exports.proofs.machine.legible.Statement.{statement}
-use Rattle.exports.proofs.machine.legible.Tie as tie
+use Rattle.machines.proofs.legible.Statement.{statement}
+use Rattle.machines.proofs.legible.Tie as tie
 
 returns : tie.Need-returns
 unfolding legible
