@@ -11,7 +11,7 @@ use Rattle.execute.specs.declared.Went.the-variants as W
 use Rattle.pending.specs.Pending.{Lists}
 use Rattle.step.specs.Step.{stepOf, step, goesOn, counted}
 use Rattle.step.proofs.Legs.{at-most-one}
-use Rattle.run.specs.Run.{Answer, answer, after, stopOf, following, loop, run}
+use Rattle.run.specs.Run.{Answer, answer, preceded, stopOf, following, loop, run}
 use Rattle.agreement.specs.Keeping.{Capped}
 use Rattle.agreement.specs.Fuel.{takes, ranDry, continued}
 use Rattle.agreement.specs.Statements.{RunsWithinFuel, RunsContinue}
@@ -24,7 +24,7 @@ unfolding loop following
 loop-within zero k R w l = omega arith
 loop-within (suc n) k R w l =
     let s = stepOf k R w l in
-    cond-case (λ (a : Answer). a .steps ≤ suc n) (goesOn (s .went)) (after 1 (loop n k R (s .world) (s .lists))) (answer _ (counted (s .went)) _ _)
+    cond-case (λ (a : Answer). a .steps ≤ suc n) (goesOn (s .went)) (preceded 1 (loop n k R (s .world) (s .lists))) (answer _ (counted (s .went)) _ _)
     (λ _. omega (arith, loop-within n k R (s .world) (s .lists)))
     (λ _. omega (arith, at-most-one (s .went)))
 
@@ -44,15 +44,15 @@ dry-on W.Ecall = refl
 dry-on (W.Refused r) = refl
 
 -- the answer of none before it
-after-none : (a : Answer) → a ≡ after 0 a
+after-none : (a : Answer) → a ≡ preceded 0 a
 after-none a = ap (λ (i : ℕ). answer (a .stop) i (a .world) (a .lists)) (omega arith)
 
 -- a step before two runs
-continued-after : (a b : Answer) → after 1 (continued a b) ≡ continued (after 1 a) b
+continued-after : (a b : Answer) → preceded 1 (continued a b) ≡ continued (preceded 1 a) b
 unfolding continued
 continued-after a b = told (ranDry (a .stop))
   where
-    told : (t : Bool) → after 1 (cond t (after (a .steps) b) a) ≡ cond t (after (1 + a .steps) b) (after 1 a)
+    told : (t : Bool) → preceded 1 (cond t (preceded (a .steps) b) a) ≡ cond t (preceded (1 + a .steps) b) (preceded 1 a)
     told true = ap (λ (i : ℕ). answer (b .stop) i (b .world) (b .lists)) (omega arith)
     told false = refl
 
@@ -74,7 +74,7 @@ module _ (k : Mode) (R : Rules) (c : Capped (R .notes)) (g : ℕ) where
       test-case (goesOn (s .went))
       (λ e.
       rw (z, run-on k R c w l ready (f + g) e, run-on k R c w l ready f e)
-      (ap (after 1) (continue f (s .world) (s .lists) (ready-on k R c w l ready e)) ∙ continued-after (run k R f (s .world) (s .lists)) _))
+      (ap (preceded 1) (continue f (s .world) (s .lists) (ready-on k R c w l ready e)) ∙ continued-after (run k R f (s .world) (s .lists)) _))
       (λ e. rw (z, run-ends k R c w l ready (f + g) e, run-ends k R c w l ready f e) (stays _ _ (dry-on (s .went) ∙ e)))
 
 pub runs-continue : RunsContinue

@@ -12,7 +12,7 @@ use Rattle.execute.specs.declared.Went.{Went}
 use Rattle.execute.specs.declared.Went.the-variants as W
 use Rattle.step.specs.Step.{Left, left, step, goesOn, counted}
 use Rattle.step.proofs.Steps.{step-taken}
-use Rattle.run.specs.Run.{Answer, answer, after, stopOf, run}
+use Rattle.run.specs.Run.{Answer, answer, preceded, stopOf, run}
 use Rattle.agreement.specs.Keeping.{Capped}
 use Rattle.agreement.specs.Fuel.{times, takes, Says, Counts}
 use Rattle.agreement.specs.Statements.{RunsAreSteps}
@@ -33,7 +33,7 @@ module _ (fuel : ℕ) (s t : ℕ → Left) (start : s 0 .went ≡ W.On) (shift :
   before-later n zero f h = start
   before-later n (suc i) f h = rw (shift i) (f i (omega arith))
 
-  counts-later : (a : Answer) → Counts fuel t a → Counts (suc fuel) s (after 1 a)
+  counts-later : (a : Answer) → Counts fuel t a → Counts (suc fuel) s (preceded 1 a)
   counts-later a c =
       let z : 1 + a .steps ≡ suc (a .steps) = omega arith in
       rw z
@@ -91,7 +91,7 @@ module _ (k : Mode) (R : Rules) (c : Capped (R .notes)) where
       let g : goesOn (again s .went) ≡ true = rw (f 1 (omega arith)) in
       let rest = dry n (again s) (ready-on k R c (s .world) (s .lists) ready g) (λ i h. f (suc i) (omega arith)) in
       run-on k R c (s .world) (s .lists) ready n g
-      ∙ ap (after 1) rest
+      ∙ ap (preceded 1) rest
       ∙ ap (λ (i : ℕ). answer S.Fuel i (times n k R (again s) .world) (times n k R (again s) .lists)) (omega arith)
 
 pub runs-are-steps : RunsAreSteps

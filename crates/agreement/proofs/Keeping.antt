@@ -13,7 +13,7 @@ use Rattle.instruction.specs.declared.Instruction.{Instruction}
 use Rattle.execute.specs.World.{World, Stepped, refused, checksFor, does, done}
 use Rattle.deferred.specs.Limbs.{sumInto, subtracted}
 use Rattle.deferred.specs.Sources.{sources, normaliseEach}
-use Rattle.execute.specs.Modes.{limbsIn, settle}
+use Rattle.execute.specs.Modes.{limbsIn, settleSources}
 use Rattle.execute.specs.Execute.{onward, finish, execute, admits}
 use Rattle.execute.specs.declared.Mode.{Mode}
 use Rattle.execute.specs.declared.Mode.the-variants.{Plain, Deferred}
@@ -22,7 +22,7 @@ use Rattle.execute.specs.Rules.{Rules}
 use Rattle.pending.specs.Pending.{lacks}
 use Rattle.pending.specs.declared.Room.{Room}
 use Rattle.step.specs.Step.{Left, left, stepOf, step, goesOn}
-use Rattle.run.specs.Run.{Answer, answer, after, following, loop, run}
+use Rattle.run.specs.Run.{Answer, answer, preceded, following, loop, run}
 use Rattle.agreement.proofs.Cases.{cond-case, limb-cases, step-case}
 
 module _ (Q : Registers → Type 0) (N : Notes)
@@ -37,7 +37,7 @@ module _ (Q : Registers → Type 0) (N : Notes)
 
   -- the plain mode normalises nothing and has no limb forms
   pub plain-keeps : (room : Room) (i : Instruction) (w : World) → Q (w .registers) → Q ((execute Plain room N i w) .world .registers)
-  unfolding execute finish limbsIn settle
+  unfolding execute finish limbsIn settleSources
   plain-keeps room i w h = done-keeps room i _ _ w _ refl h h
 
 module _ (Q : Registers → Type 0) (N : Notes)
@@ -50,8 +50,8 @@ module _ (Q : Registers → Type 0) (N : Notes)
   each-keeps [] R h = h
   each-keeps (n ∷ ns) R h = each-keeps ns _ (normal n R h)
 
-  settle-keeps : (k : Mode) (i : Instruction) (R : Registers) → Q R → Q (settle k i R)
-  unfolding settle
+  settle-keeps : (k : Mode) (i : Instruction) (R : Registers) → Q R → Q (settleSources k i R)
+  unfolding settleSources
   settle-keeps Plain i R h = h
   settle-keeps Deferred i R h = each-keeps (sources i) R h
 
@@ -96,7 +96,7 @@ module _ (Q : Registers → Type 0) (k : Mode) (R : Rules)
   loop-keeps (suc n) w l h =
       let s = stepOf k R w l in
       let z = inner-step-keeps w l h in
-      cond-case QAfter (goesOn (s .went)) (after 1 (loop n k R (s .world) (s .lists))) (answer _ _ (s .world) _)
+      cond-case QAfter (goesOn (s .went)) (preceded 1 (loop n k R (s .world) (s .lists))) (answer _ _ (s .world) _)
       (λ _. loop-keeps n (s .world) (s .lists) z)
       (λ _. z)
 

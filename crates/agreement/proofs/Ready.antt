@@ -12,7 +12,7 @@ use Rattle.execute.specs.declared.Went.the-variants as W
 use Rattle.pending.specs.Pending.{Lists}
 use Rattle.step.specs.Step.{Left, step, goesOn, counted}
 use Rattle.step.proofs.Steps.{step-taken}
-use Rattle.run.specs.Run.{answer, after, stopOf, following, loop, run}
+use Rattle.run.specs.Run.{answer, preceded, stopOf, following, loop, run}
 use Rattle.agreement.specs.Keeping.{Capped}
 use Rattle.agreement.specs.Fuel.{takes}
 use Rattle.agreement.proofs.Taken.{takes-kept}
@@ -58,7 +58,7 @@ module _ (k : Mode) (R : Rules) (c : Capped (R .notes)) (w : World) (l : Lists) 
   unfolding loop
   run-none = run-is-loop k R w l 0 ready
 
-  pub run-on : (n : ℕ) → goesOn (first .went) ≡ true → run k R (suc n) w l ≡ after 1 (run k R n (first .world) (first .lists))
+  pub run-on : (n : ℕ) → goesOn (first .went) ≡ true → run k R (suc n) w l ≡ preceded 1 (run k R n (first .world) (first .lists))
   unfolding loop following
   run-on n e =
       run-is-loop k R w l (suc n) ready

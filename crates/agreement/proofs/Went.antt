@@ -9,7 +9,7 @@ use Rattle.effect.specs.Outcomes as G
 use Rattle.instruction.specs.declared.Instruction.{Instruction}
 use Rattle.execute.specs.World.{World, Stepped, refused, does, wentOf, marked, checksFor, done}
 use Rattle.execute.specs.Execute.{onward, wholly, finish, execute}
-use Rattle.execute.specs.Modes.{limbsIn, settle}
+use Rattle.execute.specs.Modes.{limbsIn, settleSources}
 use Rattle.execute.specs.Rules.{Rules}
 use Rattle.execute.specs.declared.Mode.{Mode}
 use Rattle.execute.specs.declared.Went.{Went}
@@ -47,7 +47,7 @@ module _ (k : Mode) (R : Rules) where
   unfolding execute finish
   execute-keeps room i w =
       let l = limbsIn k (R .notes) i (w .registers) in
-      cond-case (Kept w) (l .waits) (onward w (l .registers)) (wholly room (R .notes) i w (settle k i (w .registers)))
+      cond-case (Kept w) (l .waits) (onward w (l .registers)) (wholly room (R .notes) i w (settleSources k i (w .registers)))
       (λ _. refl)
       (λ _. done-keeps room _ w _)
 

@@ -12,7 +12,7 @@ use Rattle.execute.specs.declared.Mode.{Mode}
 use Rattle.execute.specs.declared.Went.the-variants as W
 use Rattle.pending.specs.Pending.{Lists, listsFit}
 use Rattle.step.specs.Step.{Left, left, step}
-use Rattle.run.specs.Run.{Answer, answer, after}
+use Rattle.run.specs.Run.{Answer, answer, preceded}
 
 -- n times the step, whatever each says: how the last one went, and what it left
 unfoldable pub times : ℕ → Mode → Rules → Left → Left
@@ -59,4 +59,4 @@ ranDry (S.Refused r) = false
 
 -- the run that answers a, and then, where it stopped on fuel, the one that answers b: the steps of both, and what the second leaves
 unfoldable pub continued : Answer → Answer → Answer
-continued a b = cond (ranDry (a .stop)) (after (a .steps) b) a
+continued a b = cond (ranDry (a .stop)) (preceded (a .steps) b) a

@@ -59,5 +59,5 @@ counted W.Ecall = 1
 counted (W.Refused r) = 0
 
 -- what the code gives back, with what was lent to it
-abbrev pub stepped : OneStep → List ℕ → List ℕ → List ℕ → List ℕ → Left
-stepped r m vs bs ps = left (r .went) (worldOf (r .state) m) (lists (r .count) vs bs ps)
+abbrev pub oneStep : OneStep → List ℕ → List ℕ → List ℕ → List ℕ → Left
+oneStep r m vs bs ps = left (r .went) (worldOf (r .state) m) (lists (r .count) vs bs ps)
