@@ -222,7 +222,7 @@ RunsContinue =
     (R : Rules) → Capped (R .notes) → (k : Mode) (f g : ℕ) (w : World) (l : Lists)
     → let a = run k R f w l in run k R (f + g) w l ≡ continued a (run k R g (a .world) (a .lists))
 
--- All three of the code: of whatever calls of `run_plain` or of `run_deferred` leave, as far as its own contract allows it.
+-- All three of the code: of whatever calls of `run_plain` or of `run_deferred` leave, as far as their own contracts allow it.
 abbrev pub AnswersWithinFuel : Type 0
 AnswersWithinFuel =
     (k : Mode) (κs : Lfts 4) (a : Args run_plain.signature κs) (x : Leaves run_plain.ended κs a) → Allows run_plain.ended (toldBy k) κs a x

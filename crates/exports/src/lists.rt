@@ -4,7 +4,7 @@ use crate::triple::refused;
 use crate::triple::write_triple;
 use pending::Counted;
 use pending::Entry;
-use refusal::number;
+use refusal::number_of;
 ghost use mathlib.Core.Path.{_≡_};
 ghost use Rattle.pending.specs.Pending.{lists, appendAnswer, appendLists, emptyAnswer, emptyLists, entryAt};
 ghost use Rattle.exports.specs.Triples.{tripled};
@@ -68,7 +68,7 @@ fn give_entry(answer: &mut [u8], e: Entry) -> u64
             0
         }
         Entry::Nothing => 64,
-        Entry::Refused(r) => number(r),
+        Entry::Refused(r) => number_of(r),
     }
 }
 

@@ -21,8 +21,8 @@ use Rattle.state.proofs.State.Laws as T′
 use Rattle.step.proofs.OneStep as N
 use Rattle.step.proofs.OneStep.Laws as N′
 use Rattle.checks.proofs.Pending as K
-use Rattle.lent.proofs.Outcome as Q
-use Rattle.lent.proofs.Outcome.Laws as Q′
+use Rattle.lent.proofs.InPlace as Q
+use Rattle.lent.proofs.InPlace.Laws as Q′
 use Rattle.checked.proofs.step as step
 use Rattle.checked.proofs.step.Symbol as step-def
 use Rattle.checked.proofs.step.Symbol.{name as #step}
