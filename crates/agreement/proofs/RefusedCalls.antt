@@ -64,7 +64,7 @@ steps-in-place-restore = (
 )
 
 -- ---- over a record of numbers: 1 to 9 is the code of a refusal
-abbrev Stays : Lent → List ℕ → Lists → L.Stepped → Type 0
+abbrev Stays : Lent → List ℕ → Lists → L.LentStep → Type 0
 Stays r m l s = 1 ≤ s .answer .code → s .answer .code ≤ 9 → (s .state ≡ r) × (s .memory ≡ m) × (s .lists ≡ l)
 
 served-stays : (r : Lent) (w : World) (l : Lists) (s : Left) → Restores s w l → Stays r (w .memory) l (lentServed r s)
@@ -91,6 +91,6 @@ lent-steps-restore = (
   λ κs a x p low high.
       let b = lentGiven κs a in
       let l = listed (b .count) (b .list) in
-      let t = subst⁻¹ (λ (s : L.Stepped). Stays (b .state) (b .memory) l s) p (lent-stays (a .1 .1 .1 .1 .0) (b .state) (b .memory) l) low high in
+      let t = subst⁻¹ (λ (s : L.LentStep). Stays (b .state) (b .memory) l s) p (lent-stays (a .1 .1 .1 .1 .0) (b .state) (b .memory) l) low high in
       same-kept (t .0) (t .1) (t .2),
 )

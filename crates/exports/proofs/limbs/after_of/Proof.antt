@@ -20,6 +20,9 @@ has-carries-requires c κs = tt
 bit-requires : tie.Need-bit-requires
 bit-requires c κs = tt
 
+cast-t13 : tie.Need-cast-t13
+cast-t13 c = search needs
+
 returns : tie.Need-returns
 returns c = rw (c .bit .ensures, c .before .has-carries .ensures)
 
@@ -33,4 +36,5 @@ after-of-spec =
     cast-t10
     has-carries-requires
     bit-requires
+    cast-t13
     returns)
