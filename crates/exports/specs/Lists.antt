@@ -16,12 +16,12 @@ countedTriple (N.Refused r) = refusalTriple r
 
 -- 0 for an entry, 64 for none, or the refusal's number
 abbrev pub entryCode : Entry → ℕ
-entryCode (E.Check value width pc) = 0
+entryCode (E.Check value bound pc) = 0
 entryCode E.Nothing = 64
 entryCode (E.Refused r) = numberOf r
 
--- value, width and pc; an answer is left alone where there is no such entry
+-- value, bound and pc; an answer is left alone where there is no such entry
 abbrev pub entryIn : Entry → List ℕ → List ℕ
-entryIn (E.Check value width pc) an = tripled (triple value width pc) an
+entryIn (E.Check value bound pc) an = tripled (triple value bound pc) an
 entryIn E.Nothing an = an
 entryIn (E.Refused r) an = an

@@ -27,16 +27,16 @@ fn counted(c: Counted) -> Triple
 pub extern "C" fn oracle_append(
     answer: &mut [u8],
     values: &mut [u64],
-    widths: &mut [u8],
+    bounds: &mut [u8],
     pcs: &mut [u64],
     count: usize,
     value: u64,
-    width: u8,
+    bound: u8,
     pc: u64,
 )
-    ensures { λ _. ⌜ (now (answer .exit) ≡ tripled (countedTriple (appendAnswer value width pc (lists count (now (values .entry)) (now (widths .entry)) (now (pcs .entry))))) (now (answer .entry))) × (lists ((appendLists value width pc (lists count (now (values .entry)) (now (widths .entry)) (now (pcs .entry)))) .count) (now (values .exit)) (now (widths .exit)) (now (pcs .exit)) ≡ appendLists value width pc (lists count (now (values .entry)) (now (widths .entry)) (now (pcs .entry)))) ⌝ }
+    ensures { λ _. ⌜ (now (answer .exit) ≡ tripled (countedTriple (appendAnswer value bound pc (lists count (now (values .entry)) (now (bounds .entry)) (now (pcs .entry))))) (now (answer .entry))) × (lists ((appendLists value bound pc (lists count (now (values .entry)) (now (bounds .entry)) (now (pcs .entry)))) .count) (now (values .exit)) (now (bounds .exit)) (now (pcs .exit)) ≡ appendLists value bound pc (lists count (now (values .entry)) (now (bounds .entry)) (now (pcs .entry)))) ⌝ }
 {
-    let c = pending::append(values, widths, pcs, count, value, width, pc);
+    let c = pending::append(values, bounds, pcs, count, value, bound, pc);
     write_triple(answer, counted(c));
 }
 
@@ -44,13 +44,13 @@ pub extern "C" fn oracle_append(
 pub extern "C" fn oracle_empty(
     answer: &mut [u8],
     values: &mut [u64],
-    widths: &mut [u8],
+    bounds: &mut [u8],
     pcs: &mut [u64],
     count: usize,
 )
-    ensures { λ _. ⌜ (now (answer .exit) ≡ tripled (countedTriple (emptyAnswer (lists count (now (values .entry)) (now (widths .entry)) (now (pcs .entry))))) (now (answer .entry))) × (lists ((emptyLists (lists count (now (values .entry)) (now (widths .entry)) (now (pcs .entry)))) .count) (now (values .exit)) (now (widths .exit)) (now (pcs .exit)) ≡ emptyLists (lists count (now (values .entry)) (now (widths .entry)) (now (pcs .entry)))) ⌝ }
+    ensures { λ _. ⌜ (now (answer .exit) ≡ tripled (countedTriple (emptyAnswer (lists count (now (values .entry)) (now (bounds .entry)) (now (pcs .entry))))) (now (answer .entry))) × (lists ((emptyLists (lists count (now (values .entry)) (now (bounds .entry)) (now (pcs .entry)))) .count) (now (values .exit)) (now (bounds .exit)) (now (pcs .exit)) ≡ emptyLists (lists count (now (values .entry)) (now (bounds .entry)) (now (pcs .entry)))) ⌝ }
 {
-    let c = pending::empty(values, widths, pcs, count);
+    let c = pending::empty(values, bounds, pcs, count);
     write_triple(answer, counted(c));
 }
 
@@ -58,10 +58,10 @@ fn give_entry(answer: &mut [u8], e: Entry) -> u64
     ensures { λ r. ⌜ (r ≡ entryCode e) × (now (answer .exit) ≡ entryIn e (now (answer .entry))) ⌝ }
 {
     match e {
-        Entry::Check { value, width, pc } => {
+        Entry::Check { value, bound, pc } => {
             let check = Triple {
                 first: value,
-                second: width as u64,
+                second: bound as u64,
                 third: pc,
             };
             write_triple(answer, check);
@@ -76,12 +76,12 @@ fn give_entry(answer: &mut [u8], e: Entry) -> u64
 pub extern "C" fn oracle_read<'a>(
     answer: &mut [u8],
     values: &'a [u64],
-    widths: &'a [u8],
+    bounds: &'a [u8],
     pcs: &'a [u64],
     count: usize,
     at: usize,
 ) -> u64
-    ensures { λ r. ⌜ (r ≡ entryCode (entryAt at (lists count (now (values .entry)) (now (widths .entry)) (now (pcs .entry))))) × (now (answer .exit) ≡ entryIn (entryAt at (lists count (now (values .entry)) (now (widths .entry)) (now (pcs .entry)))) (now (answer .entry))) ⌝ }
+    ensures { λ r. ⌜ (r ≡ entryCode (entryAt at (lists count (now (values .entry)) (now (bounds .entry)) (now (pcs .entry))))) × (now (answer .exit) ≡ entryIn (entryAt at (lists count (now (values .entry)) (now (bounds .entry)) (now (pcs .entry)))) (now (answer .entry))) ⌝ }
 {
-    give_entry(answer, pending::read(values, widths, pcs, count, at))
+    give_entry(answer, pending::read(values, bounds, pcs, count, at))
 }

@@ -1,4 +1,4 @@
-// Pending checks, in three lent lists of numbers and a count: values, the widths that were noted of them, and pcs.
+// Pending checks, in three lent lists of numbers and a count: values, the bounds that were noted of them, and pcs.
 use refusal::Refusal;
 ghost use mathlib.Core.Path.{_≡_};
 ghost use lib.ListN.{set};
@@ -24,16 +24,16 @@ pub enum Counted {
 }
 
 pub enum Entry {
-    Check { value: u64, width: u8, pc: u64 },
+    Check { value: u64, bound: u8, pc: u64 },
     Nothing,
     Refused(Refusal),
 }
 
 // Whether the lists are of one length, and the count within it.
-pub fn lists_fit(values: usize, widths: usize, pcs: usize, count: usize) -> bool
-    ensures { λ r. ⌜ r ≡ lengthsFit values widths pcs count ⌝ }
+pub fn lists_fit(values: usize, bounds: usize, pcs: usize, count: usize) -> bool
+    ensures { λ r. ⌜ r ≡ lengthsFit values bounds pcs count ⌝ }
 {
-    (widths == values) & (pcs == values) & (count <= values)
+    (bounds == values) & (pcs == values) & (count <= values)
 }
 
 // The room of lists of a length, with so many in use.
@@ -67,7 +67,7 @@ fn put_number(list: &mut [u64], at: usize, v: u64)
     }
 }
 
-fn put_width(list: &mut [u8], at: usize, v: u8)
+fn put_bound(list: &mut [u8], at: usize, v: u8)
     ensures { λ _. ⌜ now (list .exit) ≡ set (now (list .entry)) at v ⌝ }
 {
     if at < list.len() {
@@ -78,20 +78,20 @@ fn put_width(list: &mut [u8], at: usize, v: u8)
 // The count after one more check, if there is room.
 fn note(
     values: &mut [u64],
-    widths: &mut [u8],
+    bounds: &mut [u8],
     pcs: &mut [u64],
     count: usize,
     value: u64,
-    width: u8,
+    bound: u8,
     pc: u64,
 ) -> usize
-    ensures { λ r. ⌜ lists r (now (values .exit)) (now (widths .exit)) (now (pcs .exit)) ≡ appended value width pc (lists count (now (values .entry)) (now (widths .entry)) (now (pcs .entry))) ⌝ }
+    ensures { λ r. ⌜ lists r (now (values .exit)) (now (bounds .exit)) (now (pcs .exit)) ≡ appended value bound pc (lists count (now (values .entry)) (now (bounds .entry)) (now (pcs .entry))) ⌝ }
 {
     if values.len() <= count {
         return count;
     }
     put_number(values, count, value);
-    put_width(widths, count, width);
+    put_bound(bounds, count, bound);
     put_number(pcs, count, pc);
     count + 1
 }
@@ -99,46 +99,46 @@ fn note(
 // Lists the checks of a step at a pc, and answers the count then.
 pub fn list(
     values: &mut [u64],
-    widths: &mut [u8],
+    bounds: &mut [u8],
     pcs: &mut [u64],
     count: usize,
     checks: Checks,
     pc: u64,
 ) -> usize
-    ensures { λ r. ⌜ lists r (now (values .exit)) (now (widths .exit)) (now (pcs .exit)) ≡ listing (checksOf checks) pc (lists count (now (values .entry)) (now (widths .entry)) (now (pcs .entry))) ⌝ }
+    ensures { λ r. ⌜ lists r (now (values .exit)) (now (bounds .exit)) (now (pcs .exit)) ≡ listing (checksOf checks) pc (lists count (now (values .entry)) (now (bounds .entry)) (now (pcs .entry))) ⌝ }
 {
     match checks {
         Checks::Nothing => count,
-        Checks::One { bound, value } => note(values, widths, pcs, count, value, bound, pc),
+        Checks::One { bound, value } => note(values, bounds, pcs, count, value, bound, pc),
     }
 }
 
 // Lists one check. Where no list is lent, none is listed and nothing refused.
 pub fn append(
     values: &mut [u64],
-    widths: &mut [u8],
+    bounds: &mut [u8],
     pcs: &mut [u64],
     count: usize,
     value: u64,
-    width: u8,
+    bound: u8,
     pc: u64,
 ) -> Counted
-    ensures { λ r. ⌜ (r ≡ appendAnswer value width pc (lists count (now (values .entry)) (now (widths .entry)) (now (pcs .entry)))) × (lists ((appendLists value width pc (lists count (now (values .entry)) (now (widths .entry)) (now (pcs .entry)))) .count) (now (values .exit)) (now (widths .exit)) (now (pcs .exit)) ≡ appendLists value width pc (lists count (now (values .entry)) (now (widths .entry)) (now (pcs .entry)))) ⌝ }
+    ensures { λ r. ⌜ (r ≡ appendAnswer value bound pc (lists count (now (values .entry)) (now (bounds .entry)) (now (pcs .entry)))) × (lists ((appendLists value bound pc (lists count (now (values .entry)) (now (bounds .entry)) (now (pcs .entry)))) .count) (now (values .exit)) (now (bounds .exit)) (now (pcs .exit)) ≡ appendLists value bound pc (lists count (now (values .entry)) (now (bounds .entry)) (now (pcs .entry)))) ⌝ }
 {
-    if !lists_fit(values.len(), widths.len(), pcs.len(), count) {
+    if !lists_fit(values.len(), bounds.len(), pcs.len(), count) {
         return Counted::Refused(Refusal::Malformed);
     }
     if lacks(room_at(values.len(), count), 1) {
         return Counted::Refused(Refusal::ListFull { pc });
     }
-    Counted::Count(note(values, widths, pcs, count, value, width, pc))
+    Counted::Count(note(values, bounds, pcs, count, value, bound, pc))
 }
 
 // Empties the lists: the count is 0 then, and the entries stay.
-pub fn empty(values: &mut [u64], widths: &mut [u8], pcs: &mut [u64], count: usize) -> Counted
-    ensures { λ r. ⌜ (r ≡ emptyAnswer (lists count (now (values .entry)) (now (widths .entry)) (now (pcs .entry)))) × (lists ((emptyLists (lists count (now (values .entry)) (now (widths .entry)) (now (pcs .entry)))) .count) (now (values .exit)) (now (widths .exit)) (now (pcs .exit)) ≡ emptyLists (lists count (now (values .entry)) (now (widths .entry)) (now (pcs .entry)))) ⌝ }
+pub fn empty(values: &mut [u64], bounds: &mut [u8], pcs: &mut [u64], count: usize) -> Counted
+    ensures { λ r. ⌜ (r ≡ emptyAnswer (lists count (now (values .entry)) (now (bounds .entry)) (now (pcs .entry)))) × (lists ((emptyLists (lists count (now (values .entry)) (now (bounds .entry)) (now (pcs .entry)))) .count) (now (values .exit)) (now (bounds .exit)) (now (pcs .exit)) ≡ emptyLists (lists count (now (values .entry)) (now (bounds .entry)) (now (pcs .entry)))) ⌝ }
 {
-    if !lists_fit(values.len(), widths.len(), pcs.len(), count) {
+    if !lists_fit(values.len(), bounds.len(), pcs.len(), count) {
         return Counted::Refused(Refusal::Malformed);
     }
     Counted::Count(0)
@@ -146,14 +146,14 @@ pub fn empty(values: &mut [u64], widths: &mut [u8], pcs: &mut [u64], count: usiz
 
 pub fn read<'a>(
     values: &'a [u64],
-    widths: &'a [u8],
+    bounds: &'a [u8],
     pcs: &'a [u64],
     count: usize,
     at: usize,
 ) -> Entry
-    ensures { λ r. ⌜ r ≡ entryAt at (lists count (now (values .entry)) (now (widths .entry)) (now (pcs .entry))) ⌝ }
+    ensures { λ r. ⌜ r ≡ entryAt at (lists count (now (values .entry)) (now (bounds .entry)) (now (pcs .entry))) ⌝ }
 {
-    if !lists_fit(values.len(), widths.len(), pcs.len(), count) {
+    if !lists_fit(values.len(), bounds.len(), pcs.len(), count) {
         return Entry::Refused(Refusal::Malformed);
     }
     if count <= at {
@@ -161,7 +161,7 @@ pub fn read<'a>(
     }
     Entry::Check {
         value: values[at],
-        width: widths[at],
+        bound: bounds[at],
         pc: pcs[at],
     }
 }

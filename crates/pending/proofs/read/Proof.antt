@@ -15,27 +15,27 @@ returns-2 c = entry-beyond _ _ (sym (c .before .before .lists-fit .ensures) ∙ 
 
 mul-t7 : tie.Need-mul-t7
 mul-t7 c = let a = c .before .before .before .before .before .before .args in
-    let t = fits-mean (lists (a .count) (now (a .values)) (now (a .widths)) (now (a .pcs))) (sym (c .before .before .lists-fit .ensures) ∙ not-false _ (c .before .if1 .left)) in
+    let t = fits-mean (lists (a .count) (now (a .values)) (now (a .bounds)) (now (a .pcs))) (sym (c .before .before .lists-fit .ensures) ∙ not-false _ (c .before .if1 .left)) in
     omega arith
 
 shared-slice-read-t13 : tie.Need-shared-slice-read-t13
 shared-slice-read-t13 c = let a = c .before .before .before .before .before .before .before .args in
-    let t = fits-mean (lists (a .count) (now (a .values)) (now (a .widths)) (now (a .pcs))) (sym (c .before .before .before .lists-fit .ensures) ∙ not-false _ (c .before .before .if1 .left)) in
+    let t = fits-mean (lists (a .count) (now (a .values)) (now (a .bounds)) (now (a .pcs))) (sym (c .before .before .before .lists-fit .ensures) ∙ not-false _ (c .before .before .if1 .left)) in
     omega arith
 
 shared-slice-read-t15 : tie.Need-shared-slice-read-t15
 shared-slice-read-t15 c = let a = c .before .before .before .before .before .before .before .before .args in
-    let t = fits-mean (lists (a .count) (now (a .values)) (now (a .widths)) (now (a .pcs))) (sym (c .before .before .before .before .lists-fit .ensures) ∙ not-false _ (c .before .before .before .if1 .left)) in
+    let t = fits-mean (lists (a .count) (now (a .values)) (now (a .bounds)) (now (a .pcs))) (sym (c .before .before .before .before .lists-fit .ensures) ∙ not-false _ (c .before .before .before .if1 .left)) in
     omega arith
 
 mul-t8 : tie.Need-mul-t8
 mul-t8 c = let a = c .before .before .before .before .before .before .before .before .args in
-    let t = fits-mean (lists (a .count) (now (a .values)) (now (a .widths)) (now (a .pcs))) (sym (c .before .before .before .before .lists-fit .ensures) ∙ not-false _ (c .before .before .before .if1 .left)) in
+    let t = fits-mean (lists (a .count) (now (a .values)) (now (a .bounds)) (now (a .pcs))) (sym (c .before .before .before .before .lists-fit .ensures) ∙ not-false _ (c .before .before .before .if1 .left)) in
     omega arith
 
 shared-slice-read-t17 : tie.Need-shared-slice-read-t17
 shared-slice-read-t17 c = let a = c .before .before .before .before .before .before .before .before .before .args in
-    let t = fits-mean (lists (a .count) (now (a .values)) (now (a .widths)) (now (a .pcs))) (sym (c .before .before .before .before .before .lists-fit .ensures) ∙ not-false _ (c .before .before .before .before .if1 .left)) in
+    let t = fits-mean (lists (a .count) (now (a .values)) (now (a .bounds)) (now (a .pcs))) (sym (c .before .before .before .before .before .lists-fit .ensures) ∙ not-false _ (c .before .before .before .before .if1 .left)) in
     omega arith
 
 returns-3 : tie.Need-returns-3
