@@ -177,7 +177,8 @@ pub fn normalize_register(s: State, reg: u8) -> Normalized
     normalize_and_write(s, reg, low, high)
 }
 
-// Normalises a register whose limbs don't fit in 30 bits, as the Rust does. Since no register may hold such limbs, that is a refusal.
+// Normalises a register whose limbs don't fit in 30 bits. The Rust's does; here that is a refusal, since no register may hold such
+// limbs.
 pub fn normalize_if_near_overflow(s: State, reg: u8) -> Normalized
     ensures { λ r. ⌜ r ≡ normalizeIfNearOverflow s reg ⌝ }
 {
