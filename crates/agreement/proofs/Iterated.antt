@@ -17,7 +17,7 @@ use Rattle.agreement.specs.Keeping.{Capped}
 use Rattle.agreement.specs.Fuel.{times, takes, StopTells, Counts}
 use Rattle.agreement.specs.Statements.{RunsAreSteps}
 use Rattle.agreement.proofs.Cases.{test-case}
-use Rattle.agreement.proofs.Went.{refused-keeps}
+use Rattle.agreement.proofs.Refused.{inner-restores}
 use Rattle.agreement.proofs.Ready.{Ready, on, run-malformed, run-halted, run-none, run-on, run-ends, ready-on}
 
 -- ---- the steps s, of which t are those after the first
@@ -66,7 +66,7 @@ module _ (k : Mode) (R : Rules) (c : Capped (R .notes)) where
   again s = step k R (s .world) (s .lists)
 
   refused-same : (s : Left) → takes k (s .world) (s .lists) ≡ true → (r : Refusal) → again s .went ≡ W.Refused r → (again s .world ≡ s .world) × (again s .lists ≡ s .lists)
-  refused-same s t r = rw (← step-taken k R (s .world) (s .lists) t) (refused-keeps k R (s .world) (s .lists) r)
+  refused-same s t r = rw (← step-taken k R (s .world) (s .lists) t) (inner-restores k R (s .world) (s .lists) r)
 
   counts : (fuel : ℕ) (s : Left) → s .went ≡ W.On → Ready k (s .world) (s .lists) → Counts fuel (λ n. times n k R s) (run k R fuel (s .world) (s .lists))
   unfolding times StopTells

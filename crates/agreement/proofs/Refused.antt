@@ -5,13 +5,8 @@ use mathlib.Core.Bool.{_&&_}
 use mathlib.Core.List.{List, []}
 use lib.ListN.{length}
 use Rattle.refusal.specs.declared.Refusal.{Refusal}
-use Rattle.memory.specs.Memory.{fetchOf}
-use Rattle.memory.specs.declared.Fetched.{Fetched}
-use Rattle.memory.specs.declared.Fetched.the-variants as F
 use Rattle.state.specs.Registers.{Registers}
-use Rattle.words.specs.Words.{decodeIn, fitsOf}
-use Rattle.words.specs.declared.Decoded.{Decoded}
-use Rattle.words.specs.declared.Decoded.the-variants as D
+use Rattle.words.specs.Words.{fitsOf}
 use Rattle.effect.specs.Outcomes.{Goes, Outcome, Does, Refuses}
 use Rattle.effect.specs.Outcomes as G
 use Rattle.pending.specs.Pending.{Lists, Check, listsFit, roomOf, lacks, listing}
@@ -20,14 +15,14 @@ use Rattle.pending.specs.declared.Room.the-variants.{Unlent}
 use Rattle.execute.specs.World.{World, Stepped, refused, wentOf, checksFor, does, done}
 use Rattle.execute.specs.Modes.{limbsIn}
 use Rattle.execute.specs.Execute.{onward, finish, execute, admits}
-use Rattle.execute.specs.Rules.{Rules, obey}
+use Rattle.execute.specs.Rules.{Rules}
 use Rattle.execute.specs.declared.Mode.{Mode}
 use Rattle.execute.specs.declared.Went.the-variants as W
 use Rattle.given.specs.Given.{executeOne}
-use Rattle.step.specs.Step.{fetched, Left, left, stepOf, step}
+use Rattle.step.specs.Step.{Left, left, stepOf, step}
 use Rattle.agreement.specs.Keeping.{Restores, Undoes}
 use Rattle.agreement.specs.Statements.{RefusedStepsRestore, RefusedInstructionsUndo, RefusedGivenUndo}
-use Rattle.agreement.proofs.Cases.{cond-case}
+use Rattle.agreement.proofs.Cases.{cond-case, step-case}
 
 -- an effect that is carried out is no refusal
 no-refusal : {A : Type 0} (g : Goes) (r : Refusal) (x y : A) → wentOf g ≡ W.Refused r → x ≡ y
@@ -61,26 +56,16 @@ refused-given-undo k N i w =
     (λ _. refused-instructions-undo k Unlent N i w)
     (λ _. refused-undoes _ w)
 
-module _ (k : Mode) (R : Rules) where
-  obey-undoes : (room : Room) (d : Decoded) (w : World) → Undoes (obey k room R d w) w
-  unfolding obey
-  obey-undoes room (D.Instruction i) w = refused-instructions-undo k room (R .notes) i w
-  obey-undoes room (D.Refused r) w = refused-undoes r w
-
-  fetched-undoes : (room : Room) (f : Fetched) (w : World) → Undoes (fetched k room R f w) w
-  unfolding fetched
-  fetched-undoes room (F.Word x) w = obey-undoes room (decodeIn (R .number) x) w
-  fetched-undoes room (F.Refused r) w = refused-undoes r w
-
 -- with no check asked for, the lists stay
 none-listed : (cs : List Check) (pc : ℕ) (l : Lists) → cs ≡ [] → listing cs pc l ≡ l
 unfolding listing
 none-listed cs pc l e = rw e
 
-inner-restores : (k : Mode) (R : Rules) (w : World) (l : Lists) → Restores (stepOf k R w l) w l
+pub inner-restores : (k : Mode) (R : Rules) (w : World) (l : Lists) → Restores (stepOf k R w l) w l
 unfolding stepOf
 inner-restores k R w l r e =
-    let t = fetched-undoes k R (roomOf l) (fetchOf (w .memory) (w .pc)) w r e in
+    let room = roomOf l in
+    let t = step-case (λ (w : World) (s : Stepped). Undoes s w) k room R refused-undoes (refused-instructions-undo k room (R .notes)) w r e in
     (t .0, none-listed _ (w .pc) l (t .1))
 
 pub refused-steps-restore : RefusedStepsRestore

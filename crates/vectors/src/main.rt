@@ -9,7 +9,7 @@ use call::NUMBERS;
 use line::Line;
 use tally::Tally;
 
-struct Reading {
+struct Progress {
     line: Line,
     tally: Tally,
     is_ended: bool,
@@ -29,7 +29,7 @@ fn replay_line(begun: Line, numbers: &mut [u64; NUMBERS], t: Tally) -> Tally {
     tally::compared(t, line.number, replay::replay(numbers))
 }
 
-fn replay_chunk(chunk: &[u8], r: Reading, numbers: &mut [u64; NUMBERS]) -> Reading {
+fn replay_chunk(chunk: &[u8], r: Progress, numbers: &mut [u64; NUMBERS]) -> Progress {
     let mut line = r.line;
     let mut t = r.tally;
     let mut i: usize = 0;
@@ -43,22 +43,22 @@ fn replay_chunk(chunk: &[u8], r: Reading, numbers: &mut [u64; NUMBERS]) -> Readi
         }
         i += 1;
     }
-    Reading {
+    Progress {
         line,
         tally: t,
         is_ended: chunk.len() == 0,
     }
 }
 
-fn read_on(r: Reading, numbers: &mut [u64; NUMBERS]) -> Reading {
+fn read_on(r: Progress, numbers: &mut [u64; NUMBERS]) -> Progress {
     let mut chunk = io::large_buffer();
     let n = io::read_full(0, &mut chunk);
     replay_chunk(&chunk[..n], r, numbers)
 }
 
 // Nothing says that the input ends, so the turns are counted, from a number that no run uses up.
-fn read_all(numbers: &mut [u64; NUMBERS]) -> Reading {
-    let mut r = Reading {
+fn read_all(numbers: &mut [u64; NUMBERS]) -> Progress {
+    let mut r = Progress {
         line: line::empty(1),
         tally: tally::nothing(),
         is_ended: false,

@@ -23,7 +23,7 @@ pub struct Compared {
     pub lists_differ: bool,
 }
 
-struct Called {
+struct Replayed {
     code: u64,
     lists_differ: bool,
 }
@@ -157,7 +157,7 @@ fn run_listed(
     state: &mut [u8],
     m: &mut [u8],
     answer: &mut [u8],
-) -> Called {
+) -> Replayed {
     let mut values = [0u64; LIST_BUFFER];
     let mut bounds = [0u8; LIST_BUFFER];
     let mut pcs = [0u64; LIST_BUFFER];
@@ -175,7 +175,7 @@ fn run_listed(
         call.fuel,
         call.mode,
     );
-    Called {
+    Replayed {
         code: memory::bytes::number_at(answer, 0, 8),
         lists_differ: count as u64 != count_after(line, call, places)
             || lists_differ(line, call, places, &values, &bounds, &pcs),
@@ -190,11 +190,11 @@ fn called_on(
     state: &mut [u8],
     m: &mut [u8],
     answer: &mut [u8],
-) -> Called {
+) -> Replayed {
     if call.is_listed {
         return run_listed(line, call, places, state, m, answer);
     }
-    Called {
+    Replayed {
         code: host::zkir_run(state, m, answer, call.fuel, call.mode),
         lists_differ: false,
     }
@@ -208,7 +208,7 @@ fn make(
     state: &mut [u8],
     memory: &mut [u8],
     answer: &mut [u8],
-) -> Called {
+) -> Replayed {
     let s = within(call.state, state);
     let m = within(call.memory, memory);
     let a = within(call.answer, answer);
