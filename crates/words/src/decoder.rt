@@ -46,8 +46,8 @@ fn low(word: u32) -> u8
     (word % (fields::OPCODE_MASK + 1)) as u8
 }
 
-// A word taken apart without building the instruction, for a loop that goes by opcode. It stays in registers when inlined, and
-// takes at most three branches: a range test of the number, a jump by form, and at R, Shift and Alone a test of the unused bits.
+// A word taken apart without building the instruction, in at most three branches: a range test of the number, a jump by form, and
+// at R, Shift and Alone a test of the unused bits.
 fn take(word: u32) -> Taken
     ensures { λ r. ⌜ r ≡ takeIn opcodeNumber word ⌝ }
 {
