@@ -12,8 +12,8 @@ use Rattle.effect.specs.Notes.{Notes}
 use Rattle.effect.specs.Effects.{seen, writing, effect}
 use Rattle.effect.specs.Outcomes.{Outcome, Does, Refuses}
 use Rattle.execute.specs.World.{World, Stepped, done}
-use Rattle.deferred.specs.Limbs.{sumOf, fits, sumInto, added, addedImm, covers, subtracted, limbs}
-use Rattle.execute.specs.Modes.{limbsIn, settle}
+use Rattle.deferred.specs.Limbs.{sumOf, sumFits, sumInto, added, addedImm, covers, subtracted, limbs}
+use Rattle.execute.specs.Modes.{limbsIn, settleSources}
 use Rattle.execute.specs.Execute.{wholly, onward, finish, execute}
 use Rattle.pending.specs.declared.Room.the-variants.{Unlent}
 use Rattle.pending.specs.Pending.{lacks}
@@ -39,15 +39,15 @@ wholly-reads : (N : Notes) (i : Instruction) (w : World) (R : Registers) → rea
 wholly-reads N i w R = rw (seen-read (w .pc) R) (done-reads _ w R)
 
 settled-reads : (k : Mode) (N : Notes) (i : Instruction) (w : World)
-    → readStep (wholly Unlent N i w (settle k i (w .registers))) ≡ unchecked (wholly Unlent N i (readWorld w) (readAll (w .registers)))
-settled-reads k N i w = rw (wholly-reads N i w (settle k i (w .registers)), read-settle k i (w .registers))
+    → readStep (wholly Unlent N i w (settleSources k i (w .registers))) ≡ unchecked (wholly Unlent N i (readWorld w) (readAll (w .registers)))
+settled-reads k N i w = rw (wholly-reads N i w (settleSources k i (w .registers)), read-settle k i (w .registers))
 
 -- ---- on limbs: the registers, read
 sum-reads : (rd : ℕ) (x y : Held) (b : ℕ) (R T : Registers) → Sized R → Sized T → readAll T ≡ readAll R
     → readAll (sumInto rd x y b R T) ≡ put (readAll R) rd (Whole (add40 (valueOf x) (valueOf y))) b
 unfolding sumInto lowOf
 sum-reads rd x y b R T z u e =
-    cond-case (λ (S : Registers). readAll S ≡ put (readAll R) rd (Whole (add40 (valueOf x) (valueOf y))) b) (fits x y)
+    cond-case (λ (S : Registers). readAll S ≡ put (readAll R) rd (Whole (add40 (valueOf x) (valueOf y))) b) (sumFits x y)
     (put R rd (sumOf x y) b)
     (put T rd (sumOf (settled x) (settled y)) b)
     (λ f. read-put R rd (sumOf x y) b ((fits-true (lowOf x + lowOf y) (highOf x + highOf y) f) .0) z ∙ rw (sum-value x y))
@@ -99,6 +99,6 @@ module _ (N : Notes) (w : World) (z : Sized (w .registers)) where
       (λ i. settled-reads Deferred N i w)
 
 pub instructions-agree : InstructionsAgree
-unfolding execute limbsIn finish settle
+unfolding execute limbsIn finish settleSources
 instructions-agree Plain N i w z = wholly-reads N i w (w .registers)
 instructions-agree Deferred N i w z = limbs-agree N w z i

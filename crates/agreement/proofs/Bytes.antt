@@ -5,7 +5,7 @@ use mathlib.Core.Bool.{Bool, true, false}
 use mathlib.Core.List.{List, _∷_}
 use lib.Dec.{eqb, lit<}
 use native.Mathlib.Omega.{arith}
-use Rattle.memory.specs.Bytes.{number, bytes}
+use Rattle.memory.specs.Bytes.{numberOfBytes, bytes}
 use Rattle.state.specs.Held.{Held, Whole, Limbs, lowOf, highOf, valueOf, heldOf, kept, waits}
 use Rattle.state.specs.Registers.{Registers, registers, holds, noted}
 use Rattle.state.specs.Formed.{wellFormed, registersOf}
@@ -21,7 +21,7 @@ use Rattle.agreement.proofs.Reading.{read-held}
 
 -- a number's n bytes, read
 abbrev again : ℕ → ℕ → ℕ
-again n v = number (bytes n v)
+again n v = numberOfBytes (bytes n v)
 
 abbrev heldAgain : Held → Held
 heldAgain h = heldBy (again 1 (kindOf h)) (again 8 (firstOf h)) (again 8 (secondOf h))
@@ -38,7 +38,7 @@ stateAgain s =
     }
 
 state-again : (s : State) → stateIn (stateBytes s) ≡ stateAgain s
-unfolding stateIn stateBytes headerBytes records recordBytes table bytes number
+unfolding stateIn stateBytes headerBytes records recordBytes table bytes numberOfBytes
 state-again s = refl
 
 -- ---- what is read of a table of registers
@@ -53,7 +53,7 @@ no-marks zero i f = refl
 no-marks (suc n) i f = ap (λ (l : List Bool). false ∷ l) (no-marks n (i + 1) f)
 
 whole-again : (n : ℕ) → heldAgain (Whole n) ≡ Whole (again 8 n)
-unfolding kindOf firstOf secondOf heldBy bytes number
+unfolding kindOf firstOf secondOf heldBy bytes numberOfBytes
 whole-again n = refl
 
 -- limbs below 2^30, and their value below 2^40, fit into eight bytes

@@ -19,7 +19,7 @@ use Rattle.instruction.specs.declared.Instruction.{Instruction}
 use Rattle.execute.specs.World.{World, Stepped, refused, checksFor, does, done}
 use Rattle.deferred.specs.Limbs.{sumInto, subtracted}
 use Rattle.deferred.specs.Sources.{sources, normaliseEach}
-use Rattle.execute.specs.Modes.{limbsIn, settle}
+use Rattle.execute.specs.Modes.{limbsIn, settleSources}
 use Rattle.execute.specs.Execute.{onward, finish, execute, admits}
 use Rattle.execute.specs.declared.Mode.{Mode}
 use Rattle.execute.specs.declared.Mode.the-variants.{Plain, Deferred}
@@ -29,7 +29,7 @@ use Rattle.pending.specs.Pending.{lacks}
 use Rattle.pending.specs.declared.Room.{Room}
 use Rattle.step.specs.Step.{fetched, Left, left, stepOf, step}
 use Rattle.step.specs.Leg.{goesOn}
-use Rattle.run.specs.Run.{Answer, answer, after, following, loop, run}
+use Rattle.run.specs.Run.{Answer, answer, preceded, following, loop, run}
 use Rattle.agreement.proofs.Cases.{cond-case, limb-cases}
 
 module _ (Q : Registers → Type 0) (N : Notes)
@@ -42,8 +42,8 @@ module _ (Q : Registers → Type 0) (N : Notes)
   each-keeps [] R h = h
   each-keeps (n ∷ ns) R h = each-keeps ns _ (normal n R h)
 
-  settle-keeps : (k : Mode) (i : Instruction) (R : Registers) → Q R → Q (settle k i R)
-  unfolding settle
+  settle-keeps : (k : Mode) (i : Instruction) (R : Registers) → Q R → Q (settleSources k i R)
+  unfolding settleSources
   settle-keeps Plain i R h = h
   settle-keeps Deferred i R h = each-keeps (sources i) R h
 
@@ -106,7 +106,7 @@ module _ (Q : Registers → Type 0) (k : Mode) (R : Rules)
   loop-keeps (suc n) w l h =
       let s = stepOf k R w l in
       let z = inner-step-keeps w l h in
-      cond-case QAfter (goesOn (s .went)) (after 1 (loop n k R (s .world) (s .lists))) (answer _ _ (s .world) _)
+      cond-case QAfter (goesOn (s .went)) (preceded 1 (loop n k R (s .world) (s .lists))) (answer _ _ (s .world) _)
       (λ _. loop-keeps n (s .world) (s .lists) z)
       (λ _. z)
 

@@ -11,7 +11,7 @@ use Rattle.state.proofs.Files.{kept-settled, waits-settled, set-same}
 use Rattle.state.proofs.Normal.{held-kept}
 use Rattle.effect.specs.Effects.{seen}
 use Rattle.deferred.specs.Sources.{sources, normaliseEach}
-use Rattle.execute.specs.Modes.{settle}
+use Rattle.execute.specs.Modes.{settleSources}
 use Rattle.execute.specs.declared.Mode.{Mode}
 use Rattle.execute.specs.declared.Mode.the-variants.{Plain, Deferred}
 use Rattle.instruction.specs.declared.Instruction.{Instruction}
@@ -116,7 +116,7 @@ unfolding normaliseEach
 read-each [] R = refl
 read-each (n ∷ ns) R = read-each ns (normalise n R) ∙ read-normalise n R
 
-pub read-settle : (k : Mode) (i : Instruction) (R : Registers) → readAll (settle k i R) ≡ readAll R
-unfolding settle
+pub read-settle : (k : Mode) (i : Instruction) (R : Registers) → readAll (settleSources k i R) ≡ readAll R
+unfolding settleSources
 read-settle Plain i R = refl
 read-settle Deferred i R = read-each (sources i) R

@@ -27,7 +27,7 @@ use Rattle.pending.specs.declared.Room.the-variants.{Unlent}
 use Rattle.execute.specs.Rules.{Rules, obey}
 use Rattle.step.specs.Step.{fetched, Left, left, stepOf}
 use Rattle.step.specs.Leg.{goesOn}
-use Rattle.run.specs.Run.{Answer, answer, after, following, loop, run}
+use Rattle.run.specs.Run.{Answer, answer, preceded, following, loop, run}
 use Rattle.agreement.specs.Reading.{noMarks, readAll, readWorld, unchecked, readStep, Sized, noLists, readAnswer}
 use Rattle.agreement.specs.Keeping.{Formed}
 use Rattle.agreement.specs.Statements.{RunsAgree, RunsOnValues}
@@ -103,7 +103,7 @@ cond-reads false a b c d e f = f
 following-reads : (s : Left) (f g : World → Lists → Answer) → readAnswer (f (s .world) (s .lists)) ≡ g (readWorld (s .world)) (s .lists)
     → readAnswer (following s f) ≡ following (readLeft s) g
 unfolding following
-following-reads s f g e = cond-reads (goesOn (s .went)) (after 1 (f (s .world) (s .lists))) _ _ _ (ap (after 1) e) refl
+following-reads s f g e = cond-reads (goesOn (s .went)) (preceded 1 (f (s .world) (s .lists))) _ _ _ (ap (preceded 1) e) refl
 
 -- in either mode, from any state of sixteen registers: the run read as values is the plain run of the state read as values
 pub loop-agrees : (n : ℕ) (k : Mode) (R : Rules) (w : World) → Sized (w .registers) → readAnswer (loop n k R w noLists) ≡ loop n Plain R (readWorld w) noLists

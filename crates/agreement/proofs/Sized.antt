@@ -7,7 +7,7 @@ use Rattle.state.specs.Registers.{Registers, place, put, normalise}
 use Rattle.effect.specs.Notes.{Notes}
 use Rattle.instruction.specs.declared.Instruction.{Instruction}
 use Rattle.execute.specs.World.{World}
-use Rattle.deferred.specs.Limbs.{sumOf, fits, sumInto}
+use Rattle.deferred.specs.Limbs.{sumOf, sumFits, sumInto}
 use Rattle.execute.specs.Execute.{execute}
 use Rattle.pending.specs.declared.Room.{Room}
 use Rattle.execute.specs.declared.Mode.{Mode}
@@ -30,7 +30,7 @@ sized-normalise n R z = sized-put R n _ _ z
 sized-sum : (rd : ℕ) (x y : Held) (b : ℕ) (R T : Registers) → Sized R → Sized T → Sized (sumInto rd x y b R T)
 unfolding sumInto
 sized-sum rd x y b R T z u =
-    cond-case (λ (S : Registers). Sized S) (fits x y) (put R rd (sumOf x y) b) (put T rd (sumOf (settled x) (settled y)) b)
+    cond-case (λ (S : Registers). Sized S) (sumFits x y) (put R rd (sumOf x y) b) (put T rd (sumOf (settled x) (settled y)) b)
     (λ _. sized-put R rd _ b z)
     (λ _. sized-put T rd _ b u)
 

@@ -8,7 +8,7 @@ use Rattle.state.specs.Registers.{Registers}
 use Rattle.state.specs.Formed.{wellFormed}
 use Rattle.effect.specs.Notes.{Notes}
 use Rattle.execute.specs.World.{World}
-use Rattle.deferred.specs.Limbs.{sumOf, fits, sumInto, subtracted}
+use Rattle.deferred.specs.Limbs.{sumOf, sumFits, sumInto, subtracted}
 use Rattle.execute.specs.Execute.{execute}
 use Rattle.pending.specs.declared.Room.{Room}
 use Rattle.execute.specs.declared.Mode.{Mode}
@@ -26,7 +26,7 @@ use Rattle.agreement.proofs.Keeping.{execute-keeps, step-keeps, run-kee
 formed-sum : (rd : ℕ) (x y : Held) (b : ℕ) (R T : Registers) → b ≤ 64 → Formed R → Formed T → Formed (sumInto rd x y b R T)
 unfolding sumInto lowOf highOf
 formed-sum rd x y b R T l h t =
-    cond-case Formed (fits x y) _ _
+    cond-case Formed (sumFits x y) _ _
     (λ e. formed-put R rd (sumOf x y) b (fits-true _ _ e) l h)
     (λ _. formed-put T rd (sumOf (settled x) (settled y)) b (settled-sum x y) l t)
 

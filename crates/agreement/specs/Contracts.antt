@@ -26,7 +26,7 @@ module _ (T : Ended) where
   abbrev pub Allows : Telling → (κs : Lfts (T .signature .lifetimes)) (a : Args (T .signature) κs) → Leaves κs a → Type 0
   Allows told κs a x = told κs a (x .0) (atExit T κs a (x .1))
 
--- a run's arguments, which are the same for both: state, fuel, memory, values, widths, pcs, count
+-- a run's arguments, which are the same for both: state, fuel, memory, values, bounds, pcs, count
 module _ (κs : Lfts 4) (a : Args run_plain.signature κs) where
   abbrev pub worldGiven : World
   worldGiven = worldOf (a .0) (now (a .1 .1 .0))

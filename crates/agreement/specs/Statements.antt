@@ -24,7 +24,7 @@ use Rattle.run.specs.Run.{run}
 use Rattle.run.proofs.run_plain
 use Rattle.run.proofs.run_deferred
 use Rattle.layout.specs.Layout.{stateIn}
-use Rattle.host.specs.Call.{taken, callOf}
+use Rattle.host.specs.Call.{callTaken, callOf}
 use Rattle.host.proofs.zkir_run
 use Rattle.agreement.specs.Reading.{readWorld, unchecked, readStep, readAnswer, readCall, noLists, Sized}
 use Rattle.agreement.specs.Contracts.{Leaves, Allows, worldGiven, fuelGiven, listsGiven, ranTo, callGiven, modeGiven, calledTo}
@@ -69,7 +69,7 @@ CallsAgree =
 -- One that the plain mode refuses before any step leaves the very same bytes in both.
 abbrev pub RefusedCallsAgree : Type 0
 RefusedCallsAgree =
-    (st m an : List ℕ) (fuel : ℕ) → allWhole (stateIn st .accumulated) ≡ true → taken st an 0 ≡ false
+    (st m an : List ℕ) (fuel : ℕ) → allWhole (stateIn st .accumulated) ≡ true → callTaken st an 0 ≡ false
     → callOf st m an fuel 1 ≡ callOf st m an fuel 0
 
 -- Of the code: whatever two calls of `zkir_run` leave, as far as its own contract allows it, on the same bytes and fuel, in either mode.

@@ -28,7 +28,7 @@ use Rattle.run.proofs.Loops as L
 use Rattle.checks.specs.Records.{listed}
 use Rattle.checks.specs.declared.Pending.{Pending}
 use Rattle.checks.proofs.Listed.{none, made, fits-is, room-is, listed-more, listed-same}
-use Rattle.checked.specs.Inner.{Notes, Steps, Ahead, Begins, Turns}
+use Rattle.checked.specs.Inner.{NotesChecks, Steps, Ahead, Begins, TurnsLeg}
 use Rattle.checked.specs.declared.Noted.{Noted}
 use Rattle.checked.specs.declared.Way.{Way}
 use Rattle.checked.specs.declared.Turned.{Turned}
@@ -38,16 +38,16 @@ module _ (pc room n : ℕ) where
   abbrev pub nowhere : Noted
   nowhere = record { count = n; place = room; pending = none }
 
-  pub note-nothing : Notes [] pc room n nowhere
+  pub note-nothing : NotesChecks [] pc room n nowhere
   unfolding listing
   note-nothing l e = rw (set-out l room none (omega arith))
 
   module _ (v b : ℕ) where
-    pub note-full : room ≤ n → Notes (check v b ∷ []) pc room n nowhere
+    pub note-full : room ≤ n → NotesChecks (check v b ∷ []) pc room n nowhere
     unfolding listing
     note-full h l e = rw (set-out l room none (omega arith)) (listed-same n l (made v b pc) (omega arith))
 
-    pub note-room : n < room → Notes (check v b ∷ []) pc room n (record { count = n + 1; place = n; pending = made v b pc })
+    pub note-room : n < room → NotesChecks (check v b ∷ []) pc room n (record { count = n + 1; place = n; pending = made v b pc })
     unfolding listing
     note-room h l e = listed-more n l (made v b pc) (omega arith)
 
@@ -64,7 +64,7 @@ module _ (c : Choices) (s : State) (room n : ℕ) where
   steps-malformed m f l e = rw (set-out l room none (omega arith)) (step-malformed (c .mode) (rulesOf c) (worldOf s m) (listed n l) (rw (← entry l e) f))
 
   pub steps-taken : taken ≡ true → (m m′ : List ℕ) (g : Gone) (r : Noted)
-      → gone g m′ ≡ legIn 1 (c .mode) (roomAt room n) (rulesOf c) (worldOf s m) → Notes (checksOf (g .checks)) (g .pc) room n r
+      → gone g m′ ≡ legIn 1 (c .mode) (roomAt room n) (rulesOf c) (worldOf s m) → NotesChecks (checksOf (g .checks)) (g .pc) room n r
       → Steps c s m room n (record { done = record { went = g .went; count = r .count; state = g .state }; place = r .place; pending = r .pending }) m′
   steps-taken f m m′ g r one noted l e =
       rw (noted l e)
@@ -75,7 +75,7 @@ module _ (c : Choices) (s : State) (room n : ℕ) where
   begins fuel h m l e = (omega arith, L.begins c s fuel m (listed n l) taken (entry l e))
 
 -- a turn of the run
-module _ (r : Way) (m m′ : List ℕ) (t : Turned) (l : List Pending) (turn : Turns r m (length l) t m′) (on : r .going .on ≡ true) where
+module _ (r : Way) (m m′ : List ℕ) (t : Turned) (l : List Pending) (turn : TurnsLeg r m (length l) t m′) (on : r .going .on ≡ true) where
   pub turned : (a : Answer) → Ahead r m l a → Ahead (t .next) m′ (set l (t .place) (t .pending)) a
   turned a h =
       rw (turn .2, turn .3 l refl) (

@@ -22,8 +22,8 @@ use Rattle.checked.specs.declared.Way.{Way}
 use Rattle.checked.specs.declared.Turned.{Turned}
 
 -- with the record at its place the checks are listed
-abbrev pub Notes : List Check → ℕ → ℕ → ℕ → Noted → Type 0
-Notes cs pc room n r = (l : List Pending) → length l ≡ room → listed (r .count) (set l (r .place) (r .pending)) ≡ listing cs pc (listed n l)
+abbrev pub NotesChecks : List Check → ℕ → ℕ → ℕ → Noted → Type 0
+NotesChecks cs pc room n r = (l : List Pending) → length l ≡ room → listed (r .count) (set l (r .place) (r .pending)) ≡ listing cs pc (listed n l)
 
 -- the step, once its record is at its place
 abbrev pub Steps : Choices → State → List ℕ → ℕ → ℕ → Moved → List ℕ → Type 0
@@ -38,9 +38,9 @@ abbrev pub Begins : Choices → State → ℕ → ℕ → ℕ → Way → Type 0
 Begins c s fuel room n r = (m : List ℕ) (l : List Pending) → length l ≡ room → Ahead r m l (run (c .mode) (rulesOf c) fuel (worldOf s m) (listed n l))
 
 -- a leg, its checks noted
-abbrev pub Turns : Way → List ℕ → ℕ → Turned → List ℕ → Type 0
-Turns r m room t m′ =
+abbrev pub TurnsLeg : Way → List ℕ → ℕ → Turned → List ℕ → Type 0
+TurnsLeg r m room t m′ =
     (g : Gone)
     × (gone g m′ ≡ legIn (r .going .left) (r .going .choices .mode) (roomAt room (r .count)) (rulesOf (r .going .choices)) (worldOf (r .going .state) m))
     × (t .next .going ≡ next (r .going) g)
-    × Notes (checksOf (g .checks)) (g .pc) room (r .count) (record { count = t .next .count; place = t .place; pending = t .pending })
+    × NotesChecks (checksOf (g .checks)) (g .pc) room (r .count) (record { count = t .next .count; place = t .place; pending = t .pending })

@@ -21,7 +21,7 @@ ghost use Rattle.step.specs.Step.{step};
 ghost use Rattle.run.specs.Run.{run};
 ghost use Rattle.checks.specs.Records.{listed};
 ghost use Rattle.checked.specs.Machine.{steppedOver, ranOver};
-ghost use Rattle.checked.specs.Inner.{Notes, Steps, Begins, Turns};
+ghost use Rattle.checked.specs.Inner.{NotesChecks, Steps, Begins, TurnsLeg};
 
 // The count after the checks of a step, and what is to be listed, which stands beyond the list where nothing is.
 struct Noted {
@@ -70,7 +70,7 @@ fn unnoted(room: usize, count: usize) -> Noted
 }
 
 fn note(checks: Checks, pc: u64, room: usize, count: usize) -> Noted
-    ensures { λ r. ⌜ Notes (checksOf checks) pc room count r ⌝ }
+    ensures { λ r. ⌜ NotesChecks (checksOf checks) pc room count r ⌝ }
 {
     match checks {
         Checks::Nothing => unnoted(room, count),
@@ -140,7 +140,7 @@ fn begin(choices: Choices, s: State, fuel: u64, room: usize, count: usize) -> Wa
 
 // One leg of the run.
 fn turn(r: Way, m: &mut [u8], room: usize) -> Turned
-    ensures { λ t. ⌜ Turns r (now (m .entry)) room t (now (m .exit)) ⌝ }
+    ensures { λ t. ⌜ TurnsLeg r (now (m .entry)) room t (now (m .exit)) ⌝ }
 {
     let before = r.going;
     let choices = before.choices;
@@ -148,7 +148,7 @@ fn turn(r: Way, m: &mut [u8], room: usize) -> Turned
     let g = leg::advance(choices, room_at(room, r.count), s, before.left, m);
     let checks = g.checks;
     let n = note(checks, g.pc, room, r.count);
-    let going = legs::after(before, g);
+    let going = legs::next(before, g);
     let pending = n.pending;
     Turned {
         next: Way {

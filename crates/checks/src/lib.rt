@@ -91,7 +91,7 @@ pub fn read(list: &[Pending], count: usize, at: usize) -> Entry
     let p = list[at];
     Entry::Check {
         value: p.value,
-        width: p.bound,
+        bound: p.bound,
         pc: p.pc,
     }
 }

@@ -29,7 +29,7 @@ pub fn print_stop(stop: Stop, steps: u64, pc: u64) {
         Stop::Ecall => text(b"stop ecall"),
         Stop::Refused(r) => {
             text(b"refused ");
-            number(refusal::number(r));
+            number(refusal::number_of(r));
         }
     }
     text(b" steps ");

@@ -9,7 +9,7 @@ use Rattle.opcode.specs.declared.Form.{Form}
 use Rattle.opcode.specs.declared.Form.the-variants.{R, I, Shift, S, B, J, Alone}
 use Rattle.opcode.proofs.Arms.{everywhere}
 use Rattle.opcode.proofs.Variants.{place, all-at}
-use Rattle.instruction.specs.Operands.{built, joinedOf}
+use Rattle.instruction.specs.Operands.{built, instructionOf}
 use Rattle.instruction.specs.declared.Parts.{Parts}
 use Rattle.instruction.specs.declared.Instruction.the-variants.{Sub, Ecall}
 use Rattle.state.specs.Registers.{Registers, normalise}
@@ -28,7 +28,7 @@ placed B p Rs = normalise (p .b) (normalise (p .a) Rs)
 placed J p Rs = Rs
 placed Alone p Rs = cond (eqb (opcodeNumber (p .op)) (opcodeNumber O.Ecall)) (normaliseEach (sources Ecall) Rs) Rs
 
-pub settles-placed : (p : Parts) (f : Form) (Rs : Registers) → formOf (p .op) ≡ f → placed f p Rs ≡ normaliseEach (sources (joinedOf p)) Rs
+pub settles-placed : (p : Parts) (f : Form) (Rs : Registers) → formOf (p .op) ≡ f → placed f p Rs ≡ normaliseEach (sources (instructionOf p)) Rs
 unfolding sources normaliseEach all
 settles-placed p f Rs e =
     ap (λ (g : Form). placed g p Rs) (sym e)
@@ -43,7 +43,7 @@ settles-placed p f Rs e =
 pub limbs-of-two : (N : Notes) (p : Parts) (Rs : Registers)
     → cond (eqb (opcodeNumber (p .op)) (opcodeNumber O.Add)) (limbed true (added N (p .a) (p .b) (p .c) Rs))
     (cond (eqb (opcodeNumber (p .op)) (opcodeNumber O.Sub)) (limbs N (Sub (p .a) (p .b) (p .c)) Rs) (limbed false Rs))
-    ≡ limbsIf (isRegisters (formOf (p .op))) N (joinedOf p) Rs
+    ≡ limbsIf (isRegisters (formOf (p .op))) N (instructionOf p) Rs
 unfolding limbs all
 limbs-of-two N p Rs =
     everywhere all O.Add place all-at
@@ -55,7 +55,7 @@ limbs-of-two N p Rs =
 
 pub limbs-of-one : (N : Notes) (p : Parts) (Rs : Registers)
     → cond (eqb (opcodeNumber (p .op)) (opcodeNumber O.Addi)) (limbed true (addedImm N (p .a) (p .b) (p .imm) Rs)) (limbed false Rs)
-    ≡ limbsIf (isImmediate (formOf (p .op))) N (joinedOf p) Rs
+    ≡ limbsIf (isImmediate (formOf (p .op))) N (instructionOf p) Rs
 unfolding limbs all
 limbs-of-one N p Rs =
     everywhere all O.Add place all-at
@@ -66,19 +66,19 @@ limbs-of-one N p Rs =
     (p .op)
 
 module _ (N : Notes) (p : Parts) (Rs : Registers) where
-  pub two-add : eqb (opcodeNumber (p .op)) (opcodeNumber O.Add) ≡ true → limbed true (added N (p .a) (p .b) (p .c) Rs) ≡ limbsIf (isRegisters (formOf (p .op))) N (joinedOf p) Rs
+  pub two-add : eqb (opcodeNumber (p .op)) (opcodeNumber O.Add) ≡ true → limbed true (added N (p .a) (p .b) (p .c) Rs) ≡ limbsIf (isRegisters (formOf (p .op))) N (instructionOf p) Rs
   two-add e = rw e at (limbs-of-two N p Rs)
 
   pub two-sub : eqb (opcodeNumber (p .op)) (opcodeNumber O.Add) ≡ false → eqb (opcodeNumber (p .op)) (opcodeNumber O.Sub) ≡ true
-      → limbs N (Sub (p .a) (p .b) (p .c)) Rs ≡ limbsIf (isRegisters (formOf (p .op))) N (joinedOf p) Rs
+      → limbs N (Sub (p .a) (p .b) (p .c)) Rs ≡ limbsIf (isRegisters (formOf (p .op))) N (instructionOf p) Rs
   two-sub e f = rw (e, f) at (limbs-of-two N p Rs)
 
   pub two-none : eqb (opcodeNumber (p .op)) (opcodeNumber O.Add) ≡ false → eqb (opcodeNumber (p .op)) (opcodeNumber O.Sub) ≡ false
-      → limbed false Rs ≡ limbsIf (isRegisters (formOf (p .op))) N (joinedOf p) Rs
+      → limbed false Rs ≡ limbsIf (isRegisters (formOf (p .op))) N (instructionOf p) Rs
   two-none e f = rw (e, f) at (limbs-of-two N p Rs)
 
-  pub one-addi : eqb (opcodeNumber (p .op)) (opcodeNumber O.Addi) ≡ true → limbed true (addedImm N (p .a) (p .b) (p .imm) Rs) ≡ limbsIf (isImmediate (formOf (p .op))) N (joinedOf p) Rs
+  pub one-addi : eqb (opcodeNumber (p .op)) (opcodeNumber O.Addi) ≡ true → limbed true (addedImm N (p .a) (p .b) (p .imm) Rs) ≡ limbsIf (isImmediate (formOf (p .op))) N (instructionOf p) Rs
   one-addi e = rw e at (limbs-of-one N p Rs)
 
-  pub one-none : eqb (opcodeNumber (p .op)) (opcodeNumber O.Addi) ≡ false → limbed false Rs ≡ limbsIf (isImmediate (formOf (p .op))) N (joinedOf p) Rs
+  pub one-none : eqb (opcodeNumber (p .op)) (opcodeNumber O.Addi) ≡ false → limbed false Rs ≡ limbsIf (isImmediate (formOf (p .op))) N (instructionOf p) Rs
   one-none e = rw e at (limbs-of-one N p Rs)

@@ -12,12 +12,12 @@ abbrev pub sumOf : Held → Held → Held
 sumOf x y = Limbs (lowOf x + lowOf y) (highOf x + highOf y)
 
 -- neither limb sum reaches 2^30
-abbrev pub fits : Held → Held → Bool
-fits x y = ltb (lowOf x + lowOf y) (2 ^ 30) && ltb (highOf x + highOf y) (2 ^ 30)
+abbrev pub sumFits : Held → Held → Bool
+sumFits x y = ltb (lowOf x + lowOf y) (2 ^ 30) && ltb (highOf x + highOf y) (2 ^ 30)
 
 -- "Add and Addi normalise their sources when a limb sum reaches 2^30, then add again": T is R with the sources normalised
 unfoldable pub sumInto : ℕ → Held → Held → ℕ → Registers → Registers → Registers
-sumInto rd x y bound R T = cond (fits x y) (put R rd (sumOf x y) bound) (put T rd (sumOf (settled x) (settled y)) bound)
+sumInto rd x y bound R T = cond (sumFits x y) (put R rd (sumOf x y) bound) (put T rd (sumOf (settled x) (settled y)) bound)
 
 abbrev pub added : Notes → ℕ → ℕ → ℕ → Registers → Registers
 added N rd rs1 rs2 R =

@@ -22,12 +22,12 @@ Small o = (o .low < 2 ^ 30) × (o .high < 2 ^ 34)
 abbrev pub settledFor : Plan → ℕ → Registers → Registers
 settledFor k rs1 R = cond (k .forced) (normalise (k .rs2) (normalise rs1 R)) R
 
-abbrev pub written : Plan → ℕ → ℕ → Registers → Registers
-written k rd rs1 R = place (rd % 16) (k .kept) true (k .bound) (settledFor k rs1 R)
+abbrev pub plannedInto : Plan → ℕ → ℕ → Registers → Registers
+plannedInto k rd rs1 R = place (rd % 16) (k .kept) true (k .bound) (settledFor k rs1 R)
 
-abbrev pub carried : Plan → ℕ → ℕ → Registers → Limbed
-carried k rd rs1 R = cond (k .waits) (limbed true (written k rd rs1 R)) (limbed false R)
+abbrev pub planned : Plan → ℕ → ℕ → Registers → Limbed
+planned k rd rs1 R = cond (k .waits) (limbed true (plannedInto k rd rs1 R)) (limbed false R)
 
 -- of whatever rd, rs1 and registers, since it is decided from the operands alone
 abbrev pub Plans : Plan → (ℕ → ℕ → Registers → Limbed) → Type 0
-Plans k f = (rd rs1 : ℕ) (R : Registers) → carried k rd rs1 R ≡ f rd rs1 R
+Plans k f = (rd rs1 : ℕ) (R : Registers) → planned k rd rs1 R ≡ f rd rs1 R

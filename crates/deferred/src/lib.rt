@@ -10,11 +10,11 @@ ghost use mathlib.Core.Bool.{true, cond};
 ghost use Rattle.state.specs.Registers.{registers, heldAt, boundAt, normalise, Becomes};
 ghost use Rattle.effect.specs.Notes.{documentNotes};
 ghost use Rattle.effect.specs.Tables.{isRegisters, isImmediate};
-ghost use Rattle.instruction.specs.Operands.{joinedOf};
+ghost use Rattle.instruction.specs.Operands.{instructionOf};
 ghost use Rattle.instruction.specs.declared.Instruction.the-variants.{Sub};
 ghost use Rattle.deferred.specs.Limbs.{added, addedImm, limbed, limbs, limbsIf};
 ghost use Rattle.opcode.specs.Opcodes.{formOf};
-ghost use Rattle.deferred.specs.Plan.{operand, Small, written, carried};
+ghost use Rattle.deferred.specs.Plan.{operand, Small, plannedInto, planned};
 
 mod sums; // sums.rt: the sums and differences of limbs, in numbers alone
 
@@ -34,7 +34,7 @@ fn operand_at<'a>(
 }
 
 fn add<'a>(p: Parts, regs: &'a [u64; 16], accumulated: &'a [bool; 16], bounds: &'a [u8; 16]) -> Plan
-    ensures { λ r. ⌜ carried r (p .a) (p .b) (registers (now (regs .entry)) (now (accumulated .entry)) (now (bounds .entry))) ≡ limbed true (added documentNotes (p .a) (p .b) (p .c) (registers (now (regs .entry)) (now (accumulated .entry)) (now (bounds .entry)))) ⌝ }
+    ensures { λ r. ⌜ planned r (p .a) (p .b) (registers (now (regs .entry)) (now (accumulated .entry)) (now (bounds .entry))) ≡ limbed true (added documentNotes (p .a) (p .b) (p .c) (registers (now (regs .entry)) (now (accumulated .entry)) (now (bounds .entry)))) ⌝ }
 {
     sums::sum(
         operand_at(regs, accumulated, bounds, p.b),
@@ -49,7 +49,7 @@ fn add_immediate<'a>(
     accumulated: &'a [bool; 16],
     bounds: &'a [u8; 16],
 ) -> Plan
-    ensures { λ r. ⌜ carried r (p .a) (p .b) (registers (now (regs .entry)) (now (accumulated .entry)) (now (bounds .entry))) ≡ limbed true (addedImm documentNotes (p .a) (p .b) (p .imm) (registers (now (regs .entry)) (now (accumulated .entry)) (now (bounds .entry)))) ⌝ }
+    ensures { λ r. ⌜ planned r (p .a) (p .b) (registers (now (regs .entry)) (now (accumulated .entry)) (now (bounds .entry))) ≡ limbed true (addedImm documentNotes (p .a) (p .b) (p .imm) (registers (now (regs .entry)) (now (accumulated .entry)) (now (bounds .entry)))) ⌝ }
 {
     sums::sum(
         operand_at(regs, accumulated, bounds, p.b),
@@ -59,7 +59,7 @@ fn add_immediate<'a>(
 }
 
 fn sub<'a>(p: Parts, regs: &'a [u64; 16], accumulated: &'a [bool; 16], bounds: &'a [u8; 16]) -> Plan
-    ensures { λ r. ⌜ carried r (p .a) (p .b) (registers (now (regs .entry)) (now (accumulated .entry)) (now (bounds .entry))) ≡ limbs documentNotes (Sub (p .a) (p .b) (p .c)) (registers (now (regs .entry)) (now (accumulated .entry)) (now (bounds .entry))) ⌝ }
+    ensures { λ r. ⌜ planned r (p .a) (p .b) (registers (now (regs .entry)) (now (accumulated .entry)) (now (bounds .entry))) ≡ limbs documentNotes (Sub (p .a) (p .b) (p .c)) (registers (now (regs .entry)) (now (accumulated .entry)) (now (bounds .entry))) ⌝ }
 {
     sums::difference(
         operand_at(regs, accumulated, bounds, p.b),
@@ -90,7 +90,7 @@ fn carry_out(
     accumulated: &mut [bool; 16],
     bounds: &mut [u8; 16],
 )
-    ensures { λ _. ⌜ registers (now (regs .exit)) (now (accumulated .exit)) (now (bounds .exit)) ≡ written k rd rs1 (registers (now (regs .entry)) (now (accumulated .entry)) (now (bounds .entry))) ⌝ }
+    ensures { λ _. ⌜ registers (now (regs .exit)) (now (accumulated .exit)) (now (bounds .exit)) ≡ plannedInto k rd rs1 (registers (now (regs .entry)) (now (accumulated .entry)) (now (bounds .entry))) ⌝ }
 {
     normalise_if(k.forced, regs, accumulated, rs1, k.rs2);
     registers::write(regs, accumulated, bounds, rd, k.kept, true, k.bound);
@@ -102,7 +102,7 @@ fn plan_of_registers<'a>(
     accumulated: &'a [bool; 16],
     bounds: &'a [u8; 16],
 ) -> Plan
-    ensures { λ r. ⌜ carried r (p .a) (p .b) (registers (now (regs .entry)) (now (accumulated .entry)) (now (bounds .entry))) ≡ limbsIf (isRegisters (formOf (p .op))) documentNotes (joinedOf p) (registers (now (regs .entry)) (now (accumulated .entry)) (now (bounds .entry))) ⌝ }
+    ensures { λ r. ⌜ planned r (p .a) (p .b) (registers (now (regs .entry)) (now (accumulated .entry)) (now (bounds .entry))) ≡ limbsIf (isRegisters (formOf (p .op))) documentNotes (instructionOf p) (registers (now (regs .entry)) (now (accumulated .entry)) (now (bounds .entry))) ⌝ }
 {
     let op = p.op;
     if opcode::same(op, Opcode::Add) {
@@ -120,7 +120,7 @@ fn plan_of_immediate<'a>(
     accumulated: &'a [bool; 16],
     bounds: &'a [u8; 16],
 ) -> Plan
-    ensures { λ r. ⌜ carried r (p .a) (p .b) (registers (now (regs .entry)) (now (accumulated .entry)) (now (bounds .entry))) ≡ limbsIf (isImmediate (formOf (p .op))) documentNotes (joinedOf p) (registers (now (regs .entry)) (now (accumulated .entry)) (now (bounds .entry))) ⌝ }
+    ensures { λ r. ⌜ planned r (p .a) (p .b) (registers (now (regs .entry)) (now (accumulated .entry)) (now (bounds .entry))) ≡ limbsIf (isImmediate (formOf (p .op))) documentNotes (instructionOf p) (registers (now (regs .entry)) (now (accumulated .entry)) (now (bounds .entry))) ⌝ }
 {
     let op = p.op;
     if opcode::same(op, Opcode::Addi) {
@@ -136,7 +136,7 @@ pub fn limbs_of_registers(
     accumulated: &mut [bool; 16],
     bounds: &mut [u8; 16],
 ) -> bool
-    ensures { λ r. ⌜ limbed r (registers (now (regs .exit)) (now (accumulated .exit)) (now (bounds .exit))) ≡ limbsIf (isRegisters (formOf (p .op))) documentNotes (joinedOf p) (registers (now (regs .entry)) (now (accumulated .entry)) (now (bounds .entry))) ⌝ }
+    ensures { λ r. ⌜ limbed r (registers (now (regs .exit)) (now (accumulated .exit)) (now (bounds .exit))) ≡ limbsIf (isRegisters (formOf (p .op))) documentNotes (instructionOf p) (registers (now (regs .entry)) (now (accumulated .entry)) (now (bounds .entry))) ⌝ }
 {
     let k = plan_of_registers(p, regs, accumulated, bounds);
     if k.waits {
@@ -153,7 +153,7 @@ pub fn limbs_of_immediate(
     accumulated: &mut [bool; 16],
     bounds: &mut [u8; 16],
 ) -> bool
-    ensures { λ r. ⌜ limbed r (registers (now (regs .exit)) (now (accumulated .exit)) (now (bounds .exit))) ≡ limbsIf (isImmediate (formOf (p .op))) documentNotes (joinedOf p) (registers (now (regs .entry)) (now (accumulated .entry)) (now (bounds .entry))) ⌝ }
+    ensures { λ r. ⌜ limbed r (registers (now (regs .exit)) (now (accumulated .exit)) (now (bounds .exit))) ≡ limbsIf (isImmediate (formOf (p .op))) documentNotes (instructionOf p) (registers (now (regs .entry)) (now (accumulated .entry)) (now (bounds .entry))) ⌝ }
 {
     let k = plan_of_immediate(p, regs, accumulated, bounds);
     if k.waits {

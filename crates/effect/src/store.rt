@@ -5,7 +5,7 @@ ghost use mathlib.Core.Path.{_≡_};
 ghost use Rattle.instruction.specs.Operands.{storeOf};
 ghost use Rattle.effect.specs.Operations.{storeSize};
 
-pub fn size_of(op: Opcode) -> Size
+pub fn store_size(op: Opcode) -> Size
     ensures { λ r. ⌜ r ≡ storeSize (storeOf op) ⌝ }
 {
     match op {

@@ -12,14 +12,14 @@ use Rattle.deferred.specs.Sources.{sources}
 use Rattle.deferred.proofs.Seeing.{seen-each}
 use Rattle.deferred.proofs.Staying.{unlimbed}
 use Rattle.execute.specs.World.{World, world, Stepped, done}
-use Rattle.execute.specs.Modes.{limbsIn, settle}
+use Rattle.execute.specs.Modes.{limbsIn, settleSources}
 use Rattle.execute.specs.Execute.{onward, finish, execute}
 use Rattle.instruction.specs.declared.Instruction.{Instruction}
 use Rattle.execute.specs.declared.Mode.{Mode}
 use Rattle.execute.specs.declared.Mode.the-variants.{Plain, Deferred}
 
-seen-settle : (k : Mode) (pc : ℕ) (i : Instruction) (R : Registers) → seen pc (settle k i R) ≡ seen pc R
-unfolding settle
+seen-settle : (k : Mode) (pc : ℕ) (i : Instruction) (R : Registers) → seen pc (settleSources k i R) ≡ seen pc R
+unfolding settleSources
 seen-settle Plain pc i R = refl
 seen-settle Deferred pc i R = seen-each pc (sources i) R
 
@@ -35,7 +35,7 @@ module _ (k : Mode) (room : Room) (N : Notes) (i : Instruction) (w : World) (S :
 
   -- x is what carrying out its effect leaves, which is decided on the registers S as they are
   pub not-on-limbs : (x : Stepped) → limbed false S ≡ limbsIn k N i (w .registers)
-      → x ≡ done room (effect N i (seen (w .pc) S) (w .memory)) (world (w .pc) (w .halted) S (w .memory)) (settle k i S)
+      → x ≡ done room (effect N i (seen (w .pc) S) (w .memory)) (world (w .pc) (w .halted) S (w .memory)) (settleSources k i S)
       → x ≡ execute k room N i w
   unfolding execute finish
   not-on-limbs x e q =

@@ -19,7 +19,7 @@ use Rattle.opcode.specs.declared.Form.the-variants as F
 use Rattle.opcode.proofs.Arms.{everywhere}
 use Rattle.opcode.proofs.Variants.{place, all-at, form-place}
 use Rattle.forms.specs.Forms.{usedBits, immediateOf}
-use Rattle.instruction.specs.Operands.{built, joinedOf, storeOf, branchOf}
+use Rattle.instruction.specs.Operands.{built, instructionOf, storeOf, branchOf}
 use Rattle.instruction.specs.declared.Instruction.{Instruction}
 use Rattle.instruction.specs.declared.Instruction.the-variants.{Store, Branch, Jal, Ecall, Ebreak}
 use Rattle.instruction.specs.declared.Parts.{Parts}
@@ -38,9 +38,9 @@ use Rattle.deferred.specs.Sources.{sources, normaliseEach}
 use Rattle.deferred.specs.Limbs.{limbed, limbs, limbsIf}
 use Rattle.deferred.proofs.Forms.{placed, settles-placed}
 use Rattle.execute.specs.World.{world, Stepped, stepped, refused, done}
-use Rattle.execute.specs.Modes.{limbsIn, settle}
+use Rattle.execute.specs.Modes.{limbsIn, settleSources}
 use Rattle.execute.specs.Rules.{rulesOf, obey}
-use Rattle.execute.specs.Starts.{begun, obeyed, doing, wholly, carried, settleTwo}
+use Rattle.execute.specs.Starts.{started, obeyed, doing, onWhole, carried, settleTwo}
 use Rattle.execute.specs.declared.Mode.{Mode}
 use Rattle.execute.specs.declared.Mode.the-variants.{Plain, Deferred}
 use Rattle.execute.specs.declared.Start.{Start}
@@ -57,14 +57,14 @@ none S = refl
 
 -- of two registers x and y that a form settles
 pub settled : (k : Mode) (f : Form) (op : Opcode) (a b c imm x y : ℕ) (S : Registers) → formOf op ≡ f
-    → normalise y (normalise x S) ≡ placed f (parts op a b c imm) S → settleTwo k x y S ≡ settle k (built op a b c imm) S
-unfolding settle
+    → normalise y (normalise x S) ≡ placed f (parts op a b c imm) S → settleTwo k x y S ≡ settleSources k (built op a b c imm) S
+unfolding settleSources
 settled Plain f op a b c imm x y S e q = refl
 settled Deferred f op a b c imm x y S e q = q ∙ settles-placed (parts op a b c imm) f S e
 
 -- an outcome that is the instruction's effect, on what its form settles
 pub decided : (s : Start) (i : Instruction) (R : Registers) (m : List ℕ) (o : Outcome) (T : Registers)
-    → o ≡ effect (rulesOf (s .choices) .notes) i (seen (s .pc) R) m → T ≡ settle (s .choices .mode) i R → carried s o R T m ≡ wholly s i R m
+    → o ≡ effect (rulesOf (s .choices) .notes) i (seen (s .pc) R) m → T ≡ settleSources (s .choices .mode) i R → carried s o R T m ≡ onWhole s i R m
 decided s i R m o T e f = rw (e, f)
 
 -- an instruction known by the form of its opcode, or by its opcode: f says which
@@ -98,8 +98,8 @@ module _ (N : Notes) (op : Opcode) (a b c imm pc : ℕ) (R : Registers) (m : Lis
   jumped e = rw (known (of F.J) (λ (op : Opcode). Jal a imm) op a b c imm refl refl (of-form F.J op e))
 
 -- Jal has no source
-pub unsettled : (k : Mode) (op : Opcode) (a b c imm : ℕ) (S : Registers) → formOf op ≡ F.J → S ≡ settle k (built op a b c imm) S
-unfolding settle
+pub unsettled : (k : Mode) (op : Opcode) (a b c imm : ℕ) (S : Registers) → formOf op ≡ F.J → S ≡ settleSources k (built op a b c imm) S
+unfolding settleSources
 unsettled Plain op a b c imm S e = refl
 unsettled Deferred op a b c imm S e = settles-placed (parts op a b c imm) F.J S e
 
@@ -134,13 +134,13 @@ no-limb-form Deferred N f op a b c imm S e h = sym (rw (e, h) at (none-limbed N 
 
 -- a word with bits that its form does not use, and one taken apart
 module _ (s : Start) (R : Registers) (m : List ℕ) (op : Opcode) (f : Form) (u word : ℕ) (e : f ≡ formOf op) (h : u ≡ word / 2 ^ usedBits f) where
-  pub obeyed-refused : (u ≡ 0 → ⊥) → refused (UnusedBits word) (begun s R m) ≡ obeyed s (decodedOf (apartOf op word)) R m
+  pub obeyed-refused : (u ≡ 0 → ⊥) → refused (UnusedBits word) (started s R m) ≡ obeyed s (decodedOf (apartOf op word)) R m
   unfolding obey decodedOf
   obeyed-refused n = ap (λ (t : Taken). obeyed s (decodedOf t) R m) (apart-refused op f u word e h n)
 
   pub obeyed-made : (p : Parts) (i : ℕ) (x : Stepped) → u ≡ 0 → i ≡ immediateOf f word
       → p ≡ parts op (field 7 4 word) (field 11 4 word) (field 15 4 word) i
-      → x ≡ doing s (joinedOf p) R m → x ≡ obeyed s (decodedOf (apartOf op word)) R m
+      → x ≡ doing s (instructionOf p) R m → x ≡ obeyed s (decodedOf (apartOf op word)) R m
   unfolding obey decodedOf
   obeyed-made p i x z q r y =
       (rw r at y)
@@ -175,18 +175,18 @@ unfolding takeIn foundApart
 obeyed-found s R m f op word x e h y = y ∙ ap (λ (g : Found). obeyed s (decodedOf (foundApart g word)) R m) (sym h ∙ e)
 
 pub obeyed-unknown : (s : Start) (R : Registers) (m : List ℕ) (f : Found) (word : ℕ)
-    → f ≡ opcodeIn opcodeNumber (field 0 7 word) → f ≡ Nothing → refused (BadOpcode word) (begun s R m) ≡ obeyed s (decodeIn opcodeNumber word) R m
+    → f ≡ opcodeIn opcodeNumber (field 0 7 word) → f ≡ Nothing → refused (BadOpcode word) (started s R m) ≡ obeyed s (decodeIn opcodeNumber word) R m
 unfolding takeIn foundApart decodedOf obey
 obeyed-unknown s R m f word e h = ap (λ (g : Found). obeyed s (decodedOf (foundApart g word)) R m) (sym h ∙ e)
 
 -- "Ebreak keeps the pc and marks the halt"
 pub halted : (s : Start) (R : Registers) (m : List ℕ) → stepped W.Ebreak (world (s .pc) true R m) [] ≡ doing s Ebreak R m
-unfolding effect seen settle sources normaliseEach
+unfolding effect seen settleSources sources normaliseEach
 halted s R m =
-    not-on-limbs (s .choices .mode) (s .room) documentNotes Ebreak (begun s R m) R (stepped W.Ebreak (world (s .pc) true R m) [])
+    not-on-limbs (s .choices .mode) (s .room) documentNotes Ebreak (started s R m) R (stepped W.Ebreak (world (s .pc) true R m) [])
     (no-limb-form (s .choices .mode) documentNotes F.Alone O.Ebreak 0 0 0 0 R refl refl)
-    (went-halt (s .room) (begun s R m) R (s .pc) ∙ ap (λ (T : Registers). done (s .room) (goesTo (s .pc) G.Ebreak) (begun s R m) T) (stays (s .choices .mode)))
+    (went-halt (s .room) (started s R m) R (s .pc) ∙ ap (λ (T : Registers). done (s .room) (goesTo (s .pc) G.Ebreak) (started s R m) T) (stays (s .choices .mode)))
   where
-    stays : (k : Mode) → R ≡ settle k Ebreak R
+    stays : (k : Mode) → R ≡ settleSources k Ebreak R
     stays Plain = refl
     stays Deferred = refl

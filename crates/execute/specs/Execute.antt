@@ -8,7 +8,7 @@ use Rattle.effect.specs.Notes.{Notes}
 use Rattle.effect.specs.Effects.{seen, effect}
 use Rattle.execute.specs.World.{World, world, Stepped, stepped, done}
 use Rattle.deferred.specs.Limbs.{Limbed}
-use Rattle.execute.specs.Modes.{limbsIn, settle}
+use Rattle.execute.specs.Modes.{limbsIn, settleSources}
 use Rattle.instruction.specs.declared.Instruction.{Instruction}
 use Rattle.execute.specs.declared.Mode.{Mode}
 use Rattle.execute.specs.declared.Mode.the-variants.{Plain, Deferred}
@@ -25,7 +25,7 @@ onward w R = stepped W.On (world (plus64 (w .pc) 4) (w .halted) R (w .memory)) [
 
 -- the limb form, where the mode has one, or else the instruction on whole values after what the mode normalises
 unfoldable pub finish : Mode → Room → Notes → Instruction → World → Limbed → Stepped
-finish k room N i w l = cond (l .waits) (onward w (l .registers)) (wholly room N i w (settle k i (w .registers)))
+finish k room N i w l = cond (l .waits) (onward w (l .registers)) (wholly room N i w (settleSources k i (w .registers)))
 
 unfoldable pub execute : Mode → Room → Notes → Instruction → World → Stepped
 execute k room N i w = finish k room N i w (limbsIn k N i (w .registers))

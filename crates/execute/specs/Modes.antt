@@ -12,6 +12,6 @@ unfoldable pub limbsIn : Mode → Notes → Instruction → Registers → Limbed
 limbsIn Plain N i R = limbed false R
 limbsIn Deferred N i R = limbs N i R
 
-unfoldable pub settle : Mode → Instruction → Registers → Registers
-settle Plain i R = R
-settle Deferred i R = normaliseEach (sources i) R
+unfoldable pub settleSources : Mode → Instruction → Registers → Registers
+settleSources Plain i R = R
+settleSources Deferred i R = normaliseEach (sources i) R

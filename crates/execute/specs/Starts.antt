@@ -8,7 +8,7 @@ use Rattle.words.specs.declared.Decoded.{Decoded}
 use Rattle.effect.specs.Outcomes.{Outcome}
 use Rattle.effect.specs.Effects.{seen, effect}
 use Rattle.execute.specs.World.{World, world, Stepped, advanced, done}
-use Rattle.execute.specs.Modes.{settle}
+use Rattle.execute.specs.Modes.{settleSources}
 use Rattle.execute.specs.Execute.{execute}
 use Rattle.execute.specs.Rules.{rulesOf, obey}
 use Rattle.execute.specs.declared.Mode.{Mode}
@@ -17,22 +17,22 @@ use Rattle.execute.specs.declared.Start.{Start}
 use Rattle.execute.specs.declared.Advance.{Advance}
 
 -- where a step starts, over registers and memory
-abbrev pub begun : Start → Registers → List ℕ → World
-begun s R m = world (s .pc) (s .halted) R m
+abbrev pub started : Start → Registers → List ℕ → World
+started s R m = world (s .pc) (s .halted) R m
 
 abbrev pub obeyed : Start → Decoded → Registers → List ℕ → Stepped
-obeyed s d R m = obey (s .choices .mode) (s .room) (rulesOf (s .choices)) d (begun s R m)
+obeyed s d R m = obey (s .choices .mode) (s .room) (rulesOf (s .choices)) d (started s R m)
 
 -- an instruction executed; and on whole values alone
 abbrev pub doing : Start → Instruction → Registers → List ℕ → Stepped
-doing s i R m = execute (s .choices .mode) (s .room) (rulesOf (s .choices) .notes) i (begun s R m)
+doing s i R m = execute (s .choices .mode) (s .room) (rulesOf (s .choices) .notes) i (started s R m)
 
-abbrev pub wholly : Start → Instruction → Registers → List ℕ → Stepped
-wholly s i R m = done (s .room) (effect (rulesOf (s .choices) .notes) i (seen (s .pc) R) m) (begun s R m) (settle (s .choices .mode) i R)
+abbrev pub onWhole : Start → Instruction → Registers → List ℕ → Stepped
+onWhole s i R m = done (s .room) (effect (rulesOf (s .choices) .notes) i (seen (s .pc) R) m) (started s R m) (settleSources (s .choices .mode) i R)
 
 -- an outcome carried out, on registers of which the sources are settled to T
 abbrev pub carried : Start → Outcome → Registers → Registers → List ℕ → Stepped
-carried s o R T m = done (s .room) o (begun s R m) T
+carried s o R T m = done (s .room) o (started s R m) T
 
 -- what leaves any memory as it is
 abbrev pub Always : (List ℕ → Stepped) → Advance → Registers → Type 0

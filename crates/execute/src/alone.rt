@@ -17,12 +17,12 @@ ghost use Rattle.instruction.specs.declared.Instruction.the-variants.{Ecall};
 ghost use Rattle.words.specs.Words.{apartOf, decodedOf};
 ghost use Rattle.state.specs.Registers.{registers, Becomes};
 ghost use Rattle.pending.specs.declared.Checks.the-variants.{Nothing};
-ghost use Rattle.execute.specs.Modes.{settle};
+ghost use Rattle.execute.specs.Modes.{settleSources};
 ghost use Rattle.execute.specs.declared.Went.the-variants as W;
 ghost use Rattle.execute.specs.Starts.{obeyed, doing, Always};
 
 fn settle_all(mode: Mode, regs: &mut [u64; 16], accumulated: &mut [bool; 16])
-    ensures { λ _. ⌜ Becomes (settle mode Ecall) (now (regs .entry)) (now (accumulated .entry)) (now (regs .exit)) (now (accumulated .exit)) ⌝ }
+    ensures { λ _. ⌜ Becomes (settleSources mode Ecall) (now (regs .entry)) (now (accumulated .entry)) (now (regs .exit)) (now (accumulated .exit)) ⌝ }
 {
     match mode {
         Mode::Deferred => registers::normalise_all(regs, accumulated),

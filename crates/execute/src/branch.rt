@@ -2,7 +2,7 @@
 use crate::Advance;
 use crate::Start;
 use crate::carrying::parts;
-use crate::carrying::settle;
+use crate::carrying::settle_two;
 use crate::carrying::to;
 use effect::branch::taken;
 use instruction::Parts;
@@ -13,7 +13,7 @@ ghost use mathlib.Core.Path.{_≡_};
 ghost use mathlib.Core.Bool.{cond};
 ghost use Rattle.opcode.specs.Opcodes.{formOf};
 ghost use Rattle.opcode.specs.declared.Form.the-variants as F;
-ghost use Rattle.instruction.specs.Operands.{joinedOf, branchOf};
+ghost use Rattle.instruction.specs.Operands.{instructionOf, branchOf};
 ghost use Rattle.words.specs.Words.{apartOf, decodedOf};
 ghost use Rattle.state.specs.Held.{valueOf};
 ghost use Rattle.state.specs.Registers.{registers, heldAt};
@@ -27,7 +27,7 @@ fn either(t: bool, x: u64, y: u64) -> u64
 }
 
 // Where the run goes on.
-fn next<'a>(pc: u64, p: Parts, regs: &'a [u64; 16], accumulated: &'a [bool; 16]) -> u64
+fn target<'a>(pc: u64, p: Parts, regs: &'a [u64; 16], accumulated: &'a [bool; 16]) -> u64
     ensures { λ r. ⌜ r ≡ plus64 pc (cond (taken (branchOf (p .op)) (valueOf (heldAt (now (regs .entry)) (now (accumulated .entry)) (p .a))) (valueOf (heldAt (now (regs .entry)) (now (accumulated .entry)) (p .b)))) (p .imm) 4) ⌝ }
 {
     let op = p.op;
@@ -44,12 +44,12 @@ fn executed(
     bounds: &mut [u8; 16],
 ) -> Advance
     requires { ⌜ formOf (p .op) ≡ F.B ⌝ }
-    ensures { λ r. ⌜ Always (doing start (joinedOf p) (registers (now (regs .entry)) (now (accumulated .entry)) (now (bounds .entry)))) r (registers (now (regs .exit)) (now (accumulated .exit)) (now (bounds .exit))) ⌝ }
+    ensures { λ r. ⌜ Always (doing start (instructionOf p) (registers (now (regs .entry)) (now (accumulated .entry)) (now (bounds .entry)))) r (registers (now (regs .exit)) (now (accumulated .exit)) (now (bounds .exit))) ⌝ }
 {
     let choices = start.choices;
     let mode = choices.mode;
-    let next = next(start.pc, p, regs, accumulated);
-    settle(mode, p.a, p.b, regs, accumulated);
+    let next = target(start.pc, p, regs, accumulated);
+    settle_two(mode, p.a, p.b, regs, accumulated);
     to(start, next)
 }
 

@@ -54,7 +54,7 @@ pub(crate) fn onward(start: Start) -> Advance
 
 // The sources of an instruction on whole values; R0 where it has only one. Of two arms the compiler takes the last one to be the
 // more likely, here and in the limb forms: the plain mode has less else to do.
-pub(crate) fn settle(
+pub(crate) fn settle_two(
     mode: Mode,
     first: u8,
     second: u8,
@@ -89,6 +89,6 @@ pub(crate) fn put(
 )
     ensures { λ _. ⌜ (registers (now (regs .exit)) (now (accumulated .exit)) (now (bounds .exit))) ≡ put (settleTwo mode first second (registers (now (regs .entry)) (now (accumulated .entry)) (now (bounds .entry)))) (w .rd) (Whole (w .value)) (w .bound) ⌝ }
 {
-    settle(mode, first, second, regs, accumulated);
+    settle_two(mode, first, second, regs, accumulated);
     registers::write(regs, accumulated, bounds, w.rd, w.value, false, w.bound);
 }

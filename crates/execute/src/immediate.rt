@@ -19,7 +19,7 @@ use state::registers;
 ghost use mathlib.Core.Path.{_≡_};
 ghost use Rattle.opcode.specs.Opcodes.{formOf};
 ghost use Rattle.opcode.specs.declared.Form.the-variants as F;
-ghost use Rattle.instruction.specs.Operands.{joinedOf};
+ghost use Rattle.instruction.specs.Operands.{instructionOf};
 ghost use Rattle.words.specs.Words.{apartOf, decodedOf};
 ghost use Rattle.state.specs.Registers.{registers};
 ghost use Rattle.effect.specs.Notes.{documentNotes};
@@ -28,7 +28,7 @@ ghost use Rattle.effect.specs.Tables.{turnOutcome, oneOf};
 ghost use Rattle.deferred.specs.Limbs.{limbed};
 ghost use Rattle.execute.specs.World.{advanced};
 ghost use Rattle.execute.specs.Modes.{limbsIn};
-ghost use Rattle.execute.specs.Starts.{obeyed, doing, wholly, carried, Always, settleTwo};
+ghost use Rattle.execute.specs.Starts.{obeyed, doing, onWhole, carried, Always, settleTwo};
 
 fn carry(
     start: Start,
@@ -81,7 +81,7 @@ fn limbs(
     bounds: &mut [u8; 16],
 ) -> bool
     requires { ⌜ formOf (p .op) ≡ F.I ⌝ }
-    ensures { λ r. ⌜ limbed r (registers (now (regs .exit)) (now (accumulated .exit)) (now (bounds .exit))) ≡ limbsIn mode documentNotes (joinedOf p) (registers (now (regs .entry)) (now (accumulated .entry)) (now (bounds .entry))) ⌝ }
+    ensures { λ r. ⌜ limbed r (registers (now (regs .exit)) (now (accumulated .exit)) (now (bounds .exit))) ≡ limbsIn mode documentNotes (instructionOf p) (registers (now (regs .entry)) (now (accumulated .entry)) (now (bounds .entry))) ⌝ }
 {
     match mode {
         Mode::Deferred => deferred::limbs_of_immediate(p, regs, accumulated, bounds),
@@ -89,7 +89,7 @@ fn limbs(
     }
 }
 
-fn wholly(
+fn on_whole(
     start: Start,
     p: Parts,
     regs: &mut [u64; 16],
@@ -98,7 +98,7 @@ fn wholly(
     m: &[u8],
 ) -> Advance
     requires { ⌜ formOf (p .op) ≡ F.I ⌝ }
-    ensures { λ r. ⌜ advanced r (registers (now (regs .exit)) (now (accumulated .exit)) (now (bounds .exit))) (now (m .entry)) ≡ wholly start (joinedOf p) (registers (now (regs .entry)) (now (accumulated .entry)) (now (bounds .entry))) (now (m .entry)) ⌝ }
+    ensures { λ r. ⌜ advanced r (registers (now (regs .exit)) (now (accumulated .exit)) (now (bounds .exit))) (now (m .entry)) ≡ onWhole start (instructionOf p) (registers (now (regs .entry)) (now (accumulated .entry)) (now (bounds .entry))) (now (m .entry)) ⌝ }
 {
     let op = p.op;
     let turn = immediate::decide(op, read(start.pc, p, regs, accumulated, bounds), m);
@@ -114,14 +114,14 @@ fn executed(
     m: &[u8],
 ) -> Advance
     requires { ⌜ formOf (p .op) ≡ F.I ⌝ }
-    ensures { λ r. ⌜ advanced r (registers (now (regs .exit)) (now (accumulated .exit)) (now (bounds .exit))) (now (m .entry)) ≡ doing start (joinedOf p) (registers (now (regs .entry)) (now (accumulated .entry)) (now (bounds .entry))) (now (m .entry)) ⌝ }
+    ensures { λ r. ⌜ advanced r (registers (now (regs .exit)) (now (accumulated .exit)) (now (bounds .exit))) (now (m .entry)) ≡ doing start (instructionOf p) (registers (now (regs .entry)) (now (accumulated .entry)) (now (bounds .entry))) (now (m .entry)) ⌝ }
 {
     let choices = start.choices;
     let mode = choices.mode;
     if limbs(mode, p, regs, accumulated, bounds) {
         return onward(start);
     }
-    wholly(start, p, regs, accumulated, bounds, m)
+    on_whole(start, p, regs, accumulated, bounds, m)
 }
 
 pub(crate) fn obey(
@@ -149,7 +149,7 @@ fn shifted(
     bounds: &mut [u8; 16],
 ) -> Advance
     requires { ⌜ formOf (p .op) ≡ F.Shift ⌝ }
-    ensures { λ r. ⌜ Always (doing start (joinedOf p) (registers (now (regs .entry)) (now (accumulated .entry)) (now (bounds .entry)))) r (registers (now (regs .exit)) (now (accumulated .exit)) (now (bounds .exit))) ⌝ }
+    ensures { λ r. ⌜ Always (doing start (instructionOf p) (registers (now (regs .entry)) (now (accumulated .entry)) (now (bounds .entry)))) r (registers (now (regs .exit)) (now (accumulated .exit)) (now (bounds .exit))) ⌝ }
 {
     let op = p.op;
     let turn = immediate::shift(op, read(start.pc, p, regs, accumulated, bounds));

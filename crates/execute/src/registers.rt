@@ -7,7 +7,7 @@ use crate::carrying::Write;
 use crate::carrying::onward;
 use crate::carrying::parts;
 use crate::carrying::put;
-use crate::carrying::settle;
+use crate::carrying::settle_two;
 use crate::refuse;
 use effect::registers::Deed;
 use effect::registers::Operands;
@@ -21,7 +21,7 @@ use state::registers;
 ghost use mathlib.Core.Path.{_≡_};
 ghost use Rattle.opcode.specs.Opcodes.{formOf};
 ghost use Rattle.opcode.specs.declared.Form.the-variants as F;
-ghost use Rattle.instruction.specs.Operands.{joinedOf};
+ghost use Rattle.instruction.specs.Operands.{instructionOf};
 ghost use Rattle.words.specs.Words.{apartOf, decodedOf};
 ghost use Rattle.state.specs.Registers.{registers};
 ghost use Rattle.effect.specs.Notes.{documentNotes};
@@ -31,7 +31,7 @@ ghost use Rattle.effect.specs.Tables.{deedOutcome, twoOf};
 ghost use Rattle.deferred.specs.Limbs.{limbed};
 ghost use Rattle.pending.specs.declared.Checks.the-variants.{One};
 ghost use Rattle.execute.specs.Modes.{limbsIn};
-ghost use Rattle.execute.specs.Starts.{obeyed, doing, wholly, carried, Always, settleTwo};
+ghost use Rattle.execute.specs.Starts.{obeyed, doing, onWhole, carried, Always, settleTwo};
 ghost use Rattle.execute.specs.declared.Went.the-variants as W;
 
 fn checked(start: Start, bound: u8, value: u64) -> Advance
@@ -81,7 +81,7 @@ fn carry(
             checked(start, bound, value)
         }
         Deed::Passes => {
-            settle(mode, p.b, p.c, regs, accumulated);
+            settle_two(mode, p.b, p.c, regs, accumulated);
             onward(start)
         }
         Deed::Refuses(r) => refuse(start, r),
@@ -115,7 +115,7 @@ fn limbs(
     bounds: &mut [u8; 16],
 ) -> bool
     requires { ⌜ formOf (p .op) ≡ F.R ⌝ }
-    ensures { λ r. ⌜ limbed r (registers (now (regs .exit)) (now (accumulated .exit)) (now (bounds .exit))) ≡ limbsIn mode documentNotes (joinedOf p) (registers (now (regs .entry)) (now (accumulated .entry)) (now (bounds .entry))) ⌝ }
+    ensures { λ r. ⌜ limbed r (registers (now (regs .exit)) (now (accumulated .exit)) (now (bounds .exit))) ≡ limbsIn mode documentNotes (instructionOf p) (registers (now (regs .entry)) (now (accumulated .entry)) (now (bounds .entry))) ⌝ }
 {
     match mode {
         Mode::Deferred => deferred::limbs_of_registers(p, regs, accumulated, bounds),
@@ -123,7 +123,7 @@ fn limbs(
     }
 }
 
-fn wholly(
+fn on_whole(
     start: Start,
     p: Parts,
     regs: &mut [u64; 16],
@@ -131,7 +131,7 @@ fn wholly(
     bounds: &mut [u8; 16],
 ) -> Advance
     requires { ⌜ formOf (p .op) ≡ F.R ⌝ }
-    ensures { λ r. ⌜ Always (wholly start (joinedOf p) (registers (now (regs .entry)) (now (accumulated .entry)) (now (bounds .entry)))) r (registers (now (regs .exit)) (now (accumulated .exit)) (now (bounds .exit))) ⌝ }
+    ensures { λ r. ⌜ Always (onWhole start (instructionOf p) (registers (now (regs .entry)) (now (accumulated .entry)) (now (bounds .entry)))) r (registers (now (regs .exit)) (now (accumulated .exit)) (now (bounds .exit))) ⌝ }
 {
     let op = p.op;
     let deed = decide(op, read(start.pc, p, regs, accumulated, bounds));
@@ -146,14 +146,14 @@ fn executed(
     bounds: &mut [u8; 16],
 ) -> Advance
     requires { ⌜ formOf (p .op) ≡ F.R ⌝ }
-    ensures { λ r. ⌜ Always (doing start (joinedOf p) (registers (now (regs .entry)) (now (accumulated .entry)) (now (bounds .entry)))) r (registers (now (regs .exit)) (now (accumulated .exit)) (now (bounds .exit))) ⌝ }
+    ensures { λ r. ⌜ Always (doing start (instructionOf p) (registers (now (regs .entry)) (now (accumulated .entry)) (now (bounds .entry)))) r (registers (now (regs .exit)) (now (accumulated .exit)) (now (bounds .exit))) ⌝ }
 {
     let choices = start.choices;
     let mode = choices.mode;
     if limbs(mode, p, regs, accumulated, bounds) {
         return onward(start);
     }
-    wholly(start, p, regs, accumulated, bounds)
+    on_whole(start, p, regs, accumulated, bounds)
 }
 
 pub(crate) fn obey(

@@ -3,9 +3,9 @@ use crate::Advance;
 use crate::Start;
 use crate::carrying::onward;
 use crate::carrying::parts;
-use crate::carrying::settle;
+use crate::carrying::settle_two;
 use crate::refuse;
-use effect::store::size_of;
+use effect::store::store_size;
 use instruction::Parts;
 use memory::Stored;
 use opcode::Form;
@@ -16,7 +16,7 @@ ghost use lib.ListN.{length};
 ghost use Rattle.memory.specs.Memory.{storeOf, memoryAfter};
 ghost use Rattle.opcode.specs.Opcodes.{formOf};
 ghost use Rattle.opcode.specs.declared.Form.the-variants as F;
-ghost use Rattle.instruction.specs.Operands.{joinedOf};
+ghost use Rattle.instruction.specs.Operands.{instructionOf};
 ghost use Rattle.instruction.specs.Operands as I;
 ghost use Rattle.words.specs.Words.{apartOf, decodedOf};
 ghost use Rattle.state.specs.Held.{valueOf};
@@ -32,7 +32,7 @@ fn stored<'a>(p: Parts, regs: &'a [u64; 16], accumulated: &'a [bool; 16], m: &mu
     let op = p.op;
     let s = registers::value_at(regs, accumulated, p.a);
     let t = registers::value_at(regs, accumulated, p.b);
-    memory::store(m, value::address::plus(s, p.imm), size_of(op), t)
+    memory::store(m, value::address::plus(s, p.imm), store_size(op), t)
 }
 
 fn executed(
@@ -44,13 +44,13 @@ fn executed(
     m: &mut [u8],
 ) -> Advance
     requires { ⌜ formOf (p .op) ≡ F.S ⌝ }
-    ensures { λ r. ⌜ advanced r (registers (now (regs .exit)) (now (accumulated .exit)) (now (bounds .exit))) (now (m .exit)) ≡ doing start (joinedOf p) (registers (now (regs .entry)) (now (accumulated .entry)) (now (bounds .entry))) (now (m .entry)) ⌝ }
+    ensures { λ r. ⌜ advanced r (registers (now (regs .exit)) (now (accumulated .exit)) (now (bounds .exit))) (now (m .exit)) ≡ doing start (instructionOf p) (registers (now (regs .entry)) (now (accumulated .entry)) (now (bounds .entry))) (now (m .entry)) ⌝ }
 {
     match stored(p, regs, accumulated, m) {
         Stored::Done => {
             let choices = start.choices;
             let mode = choices.mode;
-            settle(mode, p.a, p.b, regs, accumulated);
+            settle_two(mode, p.a, p.b, regs, accumulated);
             onward(start)
         }
         Stored::Refused(r) => refuse(start, r),

@@ -20,20 +20,20 @@ unfoldable pub normalizedBy : ℕ → State → ℕ → ℕ → ℕ → Normaliz
 normalizedBy which s reg low high =
     cond (eqb which 0) (normalizeRegister s reg) (cond (eqb which 1) (normalizeIfNearOverflow s reg) (normalizeAndWrite s reg low high))
 
-pub record Lent : Type 0 where
+pub record LimbCall : Type 0 where
   pub state : List ℕ
   pub before : List ℕ
   pub after : List ℕ
   pub carries : List ℕ
 
-abbrev pub lent : List ℕ → List ℕ → List ℕ → List ℕ → Lent
-lent st be af ca = record { state = st; before = be; after = af; carries = ca }
+abbrev pub limbCall : List ℕ → List ℕ → List ℕ → List ℕ → LimbCall
+limbCall st be af ca = record { state = st; before = be; after = af; carries = ca }
 
 -- 0 done, 64 unneeded, or the refusal's number
-abbrev pub codeOf : Normalizing → ℕ
-codeOf Done = 0
-codeOf Unneeded = 64
-codeOf (Refused r) = numberOf r
+abbrev pub normalizingCode : Normalizing → ℕ
+normalizingCode Done = 0
+normalizingCode Unneeded = 64
+normalizingCode (Refused r) = numberOf r
 
 abbrev pub bitOf : Bool → ℕ
 bitOf false = 0
@@ -41,7 +41,7 @@ bitOf true = 1
 
 -- the code and the limbs before
 abbrev pub beforeTriple : Normalizing → NormalizationResult → Triple
-beforeTriple n r = triple (codeOf n) (getD (r .accumulated) 0 0) (getD (r .accumulated) 1 0)
+beforeTriple n r = triple (normalizingCode n) (getD (r .accumulated) 0 0) (getD (r .accumulated) 1 0)
 
 -- the limbs after, and whether there are carries
 abbrev pub afterTriple : NormalizationResult → Triple
@@ -51,15 +51,15 @@ afterTriple r = triple (getD (r .normalized) 0 0) (getD (r .normalized) 1 0) (bi
 abbrev pub carryTriple : NormalizationResult → Triple
 carryTriple r = triple (getD (r .carries) 0 0) (getD (r .carries) 1 0) (totalCarry r)
 
-abbrev pub laidOut : List ℕ → Normalizing → NormalizationResult → Lent → Lent
+abbrev pub laidOut : List ℕ → Normalizing → NormalizationResult → LimbCall → LimbCall
 laidOut st n r g =
-    lent st (tripled (beforeTriple n r) (g .before)) (tripled (afterTriple r) (g .after)) (tripled (carryTriple r) (g .carries))
+    limbCall st (tripled (beforeTriple n r) (g .before)) (tripled (afterTriple r) (g .after)) (tripled (carryTriple r) (g .carries))
 
-abbrev pub normalizedIn : Normalized → Lent → Lent
+abbrev pub normalizedIn : Normalized → LimbCall → LimbCall
 normalizedIn n g = laidOut (written STATE_BYTES (stateBytes (n .state)) (g .state)) (n .answer) (n .result) g
 
 -- bytes that are no state's are refused (9), and stay as they are
-unfoldable pub normalizing : ℕ → ℕ → ℕ → ℕ → Lent → Lent
+unfoldable pub normalizing : ℕ → ℕ → ℕ → ℕ → LimbCall → LimbCall
 normalizing which reg low high g =
     cond (wellLaid (g .state))
     (normalizedIn (normalizedBy which (stateIn (g .state)) reg low high) g)

@@ -13,7 +13,7 @@ abbrev pub appendedTriple : Appended → Triple
 appendedTriple (A.At n) = triple 0 n 0
 appendedTriple (A.Refused r) = refusalTriple r
 
--- value, width and pc; an answer is left alone where there is no such entry
+-- value, bound and pc; an answer is left alone where there is no such entry
 abbrev pub entryIn : Entry → List ℕ → List ℕ
-entryIn (E.Check value width pc) an = tripled (triple value width pc) an
+entryIn (E.Check value bound pc) an = tripled (triple value bound pc) an
 entryIn E.Nothing an = an

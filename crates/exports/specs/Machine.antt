@@ -39,56 +39,56 @@ abbrev pub stopBytes : Stop → ℕ → List ℕ
 stopBytes p steps = answerBytes (codeOf p) steps (particularAt p)
 
 -- what is lent to a given instruction
-pub record Given : Type 0 where
+pub record GivenCall : Type 0 where
   pub state : List ℕ
   pub memory : List ℕ
   pub answer : List ℕ
   pub check : List ℕ
 
-abbrev pub given : List ℕ → List ℕ → List ℕ → List ℕ → Given
-given st m an ck = record { state = st; memory = m; answer = an; check = ck }
+abbrev pub givenCall : List ℕ → List ℕ → List ℕ → List ℕ → GivenCall
+givenCall st m an ck = record { state = st; memory = m; answer = an; check = ck }
 
-abbrev pub executedIn : Stepped → Given → Given
+abbrev pub executedIn : Stepped → GivenCall → GivenCall
 executedIn s g =
-    given
+    givenCall
     (written STATE_BYTES (stateBytes (stateOf (s .world))) (g .state))
     (s .world .memory)
     (tripled (wentTriple (s .went)) (g .answer))
     (tripled (checkTriple (s .checks)) (g .check))
 
-unfoldable pub executing : ℕ → Instruction → Given → Given
+unfoldable pub executing : ℕ → Instruction → GivenCall → GivenCall
 executing mode i g =
     cond (legible (g .state) mode)
     (executedIn (executeOne (modeOf mode) documentNotes i (worldOf (stateIn (g .state)) (g .memory))) g)
-    (given (g .state) (g .memory) (tripled (refusalTriple (refusalOf 9 0)) (g .answer)) (tripled (checkTriple []) (g .check)))
+    (givenCall (g .state) (g .memory) (tripled (refusalTriple (refusalOf 9 0)) (g .answer)) (tripled (checkTriple []) (g .check)))
 
 -- what is lent to a step or a run
-pub record Lent : Type 0 where
+pub record MachineCall : Type 0 where
   pub state : List ℕ
   pub memory : List ℕ
   pub answer : List ℕ
   pub lists : Lists
 
-abbrev pub lent : List ℕ → List ℕ → List ℕ → Lists → Lent
-lent st m an l = record { state = st; memory = m; answer = an; lists = l }
+abbrev pub machineCall : List ℕ → List ℕ → List ℕ → Lists → MachineCall
+machineCall st m an l = record { state = st; memory = m; answer = an; lists = l }
 
-abbrev pub leaving : World → List ℕ → Lists → Lent → Lent
-leaving w an l b = lent (written STATE_BYTES (stateBytes (stateOf w)) (b .state)) (w .memory) an l
+abbrev pub leaving : World → List ℕ → Lists → MachineCall → MachineCall
+leaving w an l b = machineCall (written STATE_BYTES (stateBytes (stateOf w)) (b .state)) (w .memory) an l
 
-abbrev pub steppedIn : Left → Lent → Lent
+abbrev pub steppedIn : Left → MachineCall → MachineCall
 steppedIn s b = leaving (s .world) (tripled (wentTriple (s .went)) (b .answer)) (s .lists) b
 
-unfoldable pub stepping : ℕ → Lent → Lent
+unfoldable pub stepping : ℕ → MachineCall → MachineCall
 stepping mode b =
     cond (legible (b .state) mode)
     (steppedIn (step (modeOf mode) documentRules (worldOf (stateIn (b .state)) (b .memory)) (b .lists)) b)
-    (lent (b .state) (b .memory) (tripled (refusalTriple (refusalOf 9 0)) (b .answer)) (b .lists))
+    (machineCall (b .state) (b .memory) (tripled (refusalTriple (refusalOf 9 0)) (b .answer)) (b .lists))
 
-abbrev pub ranIn : Answer → Lent → Lent
+abbrev pub ranIn : Answer → MachineCall → MachineCall
 ranIn a b = leaving (a .world) (written ANSWER_BYTES (stopBytes (a .stop) (a .steps)) (b .answer)) (a .lists) b
 
-unfoldable pub running : ℕ → ℕ → Lent → Lent
+unfoldable pub running : ℕ → ℕ → MachineCall → MachineCall
 running mode fuel b =
     cond (legible (b .state) mode)
     (ranIn (run (modeOf mode) documentRules fuel (worldOf (stateIn (b .state)) (b .memory)) (b .lists)) b)
-    (lent (b .state) (b .memory) (written ANSWER_BYTES (stopBytes (S.Refused (refusalOf 9 0)) 0) (b .answer)) (b .lists))
+    (machineCall (b .state) (b .memory) (written ANSWER_BYTES (stopBytes (S.Refused (refusalOf 9 0)) 0) (b .answer)) (b .lists))

@@ -5,7 +5,7 @@ use crate::triple::write_triple;
 use instruction::Instruction;
 use instruction::Parts;
 use opcode::Found;
-use refusal::number;
+use refusal::number_of;
 use words::Decoded;
 use words::Encoded;
 ghost use mathlib.Core.Path.{_≡_};
@@ -18,7 +18,10 @@ fn packed(p: Parts) -> u64
     ensures { λ r. ⌜ r ≡ packedOf p ⌝ }
 {
     let op = p.op;
-    opcode::number(op) as u64 + 0x100 * p.a as u64 + 0x1_0000 * p.b as u64 + 0x100_0000 * p.c as u64
+    opcode::opcode_number(op) as u64
+        + 0x100 * p.a as u64
+        + 0x1_0000 * p.b as u64
+        + 0x100_0000 * p.c as u64
 }
 
 fn decoded(d: Decoded) -> Triple
@@ -49,7 +52,7 @@ fn encoded(e: Encoded) -> u64
 {
     match e {
         Encoded::Word(w) => w as u64,
-        Encoded::Refused(r) => 0xFFFF_FFFF_FFFF_FFFF - number(r),
+        Encoded::Refused(r) => 0xFFFF_FFFF_FFFF_FFFF - number_of(r),
     }
 }
 
@@ -57,7 +60,7 @@ pub(crate) fn given(opcode: u8, a: u8, b: u8, c: u8, imm: u64) -> Instruction
     ensures { λ r. ⌜ r ≡ givenOf (opcodeIn opcodeNumber opcode) a b c imm ⌝ }
 {
     match opcode::opcode_of(opcode) {
-        Found::Op(op) => instruction::joined(Parts { op, a, b, c, imm }),
+        Found::Op(op) => instruction::instruction_of(Parts { op, a, b, c, imm }),
         Found::Nothing => Instruction::Add {
             rd: 16,
             rs1: 16,

@@ -8,20 +8,20 @@ use normalize::NormalizationResult;
 use normalize::Normalized;
 use normalize::Normalizing;
 use refusal::Refusal;
-use refusal::number;
+use refusal::number_of;
 use state::State;
 ghost use mathlib.Core.Path.{_≡_};
 ghost use Rattle.normalize.specs.Normalizing.{wouldOverflow};
 ghost use Rattle.exports.specs.Triples.{tripled};
-ghost use Rattle.exports.specs.Limbs.{normalizedBy, lent, codeOf, bitOf, beforeTriple, afterTriple, carryTriple, normalizing};
+ghost use Rattle.exports.specs.Limbs.{normalizedBy, limbCall, normalizingCode, bitOf, beforeTriple, afterTriple, carryTriple, normalizing};
 
 fn code_of(n: Normalizing) -> u64
-    ensures { λ r. ⌜ r ≡ codeOf n ⌝ }
+    ensures { λ r. ⌜ r ≡ normalizingCode n ⌝ }
 {
     match n {
         Normalizing::Unneeded => 64,
         Normalizing::Done => 0,
-        Normalizing::Refused(r) => number(r),
+        Normalizing::Refused(r) => number_of(r),
     }
 }
 
@@ -101,7 +101,7 @@ pub extern "C" fn oracle_normalize(
     low: u64,
     high: u64,
 )
-    ensures { λ _. ⌜ lent (now (state .exit)) (now (before .exit)) (now (after .exit)) (now (carries .exit)) ≡ normalizing which reg low high (lent (now (state .entry)) (now (before .entry)) (now (after .entry)) (now (carries .entry))) ⌝ }
+    ensures { λ _. ⌜ limbCall (now (state .exit)) (now (before .exit)) (now (after .exit)) (now (carries .exit)) ≡ normalizing which reg low high (limbCall (now (state .entry)) (now (before .entry)) (now (after .entry)) (now (carries .entry))) ⌝ }
 {
     if !well_laid(state) {
         let nothing = NormalizationResult {

@@ -26,40 +26,40 @@ fn appended(a: Appended) -> Triple
 pub extern "C" fn oracle_append(
     answer: &mut [u8],
     values: &mut [u64],
-    widths: &mut [u8],
+    bounds: &mut [u8],
     pcs: &mut [u64],
     count: usize,
     value: u64,
-    width: u8,
+    bound: u8,
     pc: u64,
 )
-    ensures { λ _. ⌜ (now (answer .exit) ≡ tripled (appendedTriple (appendAnswer value width pc (lists count (now (values .entry)) (now (widths .entry)) (now (pcs .entry))))) (now (answer .entry))) × (lists ((appendLists value width pc (lists count (now (values .entry)) (now (widths .entry)) (now (pcs .entry)))) .count) (now (values .exit)) (now (widths .exit)) (now (pcs .exit)) ≡ appendLists value width pc (lists count (now (values .entry)) (now (widths .entry)) (now (pcs .entry)))) ⌝ }
+    ensures { λ _. ⌜ (now (answer .exit) ≡ tripled (appendedTriple (appendAnswer value bound pc (lists count (now (values .entry)) (now (bounds .entry)) (now (pcs .entry))))) (now (answer .entry))) × (lists ((appendLists value bound pc (lists count (now (values .entry)) (now (bounds .entry)) (now (pcs .entry)))) .count) (now (values .exit)) (now (bounds .exit)) (now (pcs .exit)) ≡ appendLists value bound pc (lists count (now (values .entry)) (now (bounds .entry)) (now (pcs .entry)))) ⌝ }
 {
-    let a = pending::append(values, widths, pcs, count, value, width, pc);
+    let a = pending::append(values, bounds, pcs, count, value, bound, pc);
     write_triple(answer, appended(a));
 }
 
 #[no_mangle]
 pub extern "C" fn oracle_empty(
     values: &mut [u64],
-    widths: &mut [u8],
+    bounds: &mut [u8],
     pcs: &mut [u64],
     count: usize,
 ) -> usize
-    ensures { λ r. ⌜ lists r (now (values .exit)) (now (widths .exit)) (now (pcs .exit)) ≡ emptied (lists count (now (values .entry)) (now (widths .entry)) (now (pcs .entry))) ⌝ }
+    ensures { λ r. ⌜ lists r (now (values .exit)) (now (bounds .exit)) (now (pcs .exit)) ≡ emptied (lists count (now (values .entry)) (now (bounds .entry)) (now (pcs .entry))) ⌝ }
 {
-    pending::empty(values, widths, pcs, count)
+    pending::empty(values, bounds, pcs, count)
 }
 
 fn give_entry(answer: &mut [u8], e: Entry)
     ensures { λ _. ⌜ now (answer .exit) ≡ entryIn e (now (answer .entry)) ⌝ }
 {
     match e {
-        Entry::Check { value, width, pc } => write_triple(
+        Entry::Check { value, bound, pc } => write_triple(
             answer,
             Triple {
                 first: value,
-                second: width as u64,
+                second: bound as u64,
                 third: pc,
             },
         ),
@@ -71,12 +71,12 @@ fn give_entry(answer: &mut [u8], e: Entry)
 pub extern "C" fn oracle_read<'a>(
     answer: &mut [u8],
     values: &'a [u64],
-    widths: &'a [u8],
+    bounds: &'a [u8],
     pcs: &'a [u64],
     count: usize,
     at: usize,
 )
-    ensures { λ _. ⌜ now (answer .exit) ≡ entryIn (entryAt at (lists count (now (values .entry)) (now (widths .entry)) (now (pcs .entry)))) (now (answer .entry)) ⌝ }
+    ensures { λ _. ⌜ now (answer .exit) ≡ entryIn (entryAt at (lists count (now (values .entry)) (now (bounds .entry)) (now (pcs .entry)))) (now (answer .entry)) ⌝ }
 {
-    give_entry(answer, pending::read(values, widths, pcs, count, at));
+    give_entry(answer, pending::read(values, bounds, pcs, count, at));
 }

@@ -27,7 +27,7 @@ ghost use Rattle.layout.specs.Layout.{STATE_BYTES, stateBytes, written};
 ghost use Rattle.layout.specs.Answer.{ANSWER_BYTES};
 ghost use Rattle.exports.specs.Triples.{tripled};
 ghost use Rattle.exports.specs.Coding.{givenOf};
-ghost use Rattle.exports.specs.Machine.{wentTriple, checkTriple, stopBytes, legible, given, executing, lent, stepping, running};
+ghost use Rattle.exports.specs.Machine.{wentTriple, checkTriple, stopBytes, legible, givenCall, executing, machineCall, stepping, running};
 
 // Whether the bytes are a state's and the number a mode's.
 fn legible(state: &[u8], mode: u64) -> bool
@@ -62,7 +62,7 @@ fn leave_step(state: &mut [u8], answer: &mut [u8], after: State, went: Went)
 {
     let stop = stop_of(went);
     let t = Triple {
-        first: refusal::code(stop),
+        first: refusal::code_of(stop),
         second: 0,
         third: refusal::particular_at(stop),
     };
@@ -83,7 +83,7 @@ pub extern "C" fn oracle_execute(
     c: u8,
     imm: u64,
 )
-    ensures { λ _. ⌜ given (now (state .exit)) (now (memory .exit)) (now (answer .exit)) (now (check .exit)) ≡ executing mode (givenOf (opcodeIn opcodeNumber opcode) a b c imm) (given (now (state .entry)) (now (memory .entry)) (now (answer .entry)) (now (check .entry))) ⌝ }
+    ensures { λ _. ⌜ givenCall (now (state .exit)) (now (memory .exit)) (now (answer .exit)) (now (check .exit)) ≡ executing mode (givenOf (opcodeIn opcodeNumber opcode) a b c imm) (givenCall (now (state .entry)) (now (memory .entry)) (now (answer .entry)) (now (check .entry))) ⌝ }
 {
     if !legible(state, mode) {
         write_triple(answer, refused(Refusal::Malformed));
@@ -108,12 +108,12 @@ pub extern "C" fn oracle_step(
     memory: &mut [u8],
     answer: &mut [u8],
     values: &mut [u64],
-    widths: &mut [u8],
+    bounds: &mut [u8],
     pcs: &mut [u64],
     count: usize,
     mode: u64,
 ) -> usize
-    ensures { λ r. ⌜ lent (now (state .exit)) (now (memory .exit)) (now (answer .exit)) (lists r (now (values .exit)) (now (widths .exit)) (now (pcs .exit))) ≡ stepping mode (lent (now (state .entry)) (now (memory .entry)) (now (answer .entry)) (lists count (now (values .entry)) (now (widths .entry)) (now (pcs .entry)))) ⌝ }
+    ensures { λ r. ⌜ machineCall (now (state .exit)) (now (memory .exit)) (now (answer .exit)) (lists r (now (values .exit)) (now (bounds .exit)) (now (pcs .exit))) ≡ stepping mode (machineCall (now (state .entry)) (now (memory .entry)) (now (answer .entry)) (lists count (now (values .entry)) (now (bounds .entry)) (now (pcs .entry)))) ⌝ }
 {
     if !legible(state, mode) {
         write_triple(answer, refused(Refusal::Malformed));
@@ -123,7 +123,7 @@ pub extern "C" fn oracle_step(
         mode: mode_of(mode),
     };
     let s = read_state(state);
-    let r = step::step(choices, s, memory, values, widths, pcs, count);
+    let r = step::step(choices, s, memory, values, bounds, pcs, count);
     let went = r.went;
     let after = r.state;
     leave_step(state, answer, after, went);
@@ -136,15 +136,15 @@ fn run_by(
     fuel: u64,
     m: &mut [u8],
     values: &mut [u64],
-    widths: &mut [u8],
+    bounds: &mut [u8],
     pcs: &mut [u64],
     count: usize,
 ) -> Ran
-    ensures { λ r. ⌜ ran r (now (m .exit)) (now (values .exit)) (now (widths .exit)) (now (pcs .exit)) ≡ run mode documentRules fuel (worldOf s (now (m .entry))) (lists count (now (values .entry)) (now (widths .entry)) (now (pcs .entry))) ⌝ }
+    ensures { λ r. ⌜ ran r (now (m .exit)) (now (values .exit)) (now (bounds .exit)) (now (pcs .exit)) ≡ run mode documentRules fuel (worldOf s (now (m .entry))) (lists count (now (values .entry)) (now (bounds .entry)) (now (pcs .entry))) ⌝ }
 {
     match mode {
-        Mode::Plain => run::run_plain(s, fuel, m, values, widths, pcs, count),
-        Mode::Deferred => run::run_deferred(s, fuel, m, values, widths, pcs, count),
+        Mode::Plain => run::run_plain(s, fuel, m, values, bounds, pcs, count),
+        Mode::Deferred => run::run_deferred(s, fuel, m, values, bounds, pcs, count),
     }
 }
 
@@ -157,7 +157,7 @@ fn leave_run(state: &mut [u8], answer: &mut [u8], r: Ran)
     write_state(state, after);
     write_answer(
         answer,
-        refusal::code(stop),
+        refusal::code_of(stop),
         r.steps,
         refusal::particular_at(stop),
     );
@@ -169,20 +169,20 @@ pub extern "C" fn oracle_run(
     memory: &mut [u8],
     answer: &mut [u8],
     values: &mut [u64],
-    widths: &mut [u8],
+    bounds: &mut [u8],
     pcs: &mut [u64],
     count: usize,
     fuel: u64,
     mode: u64,
 ) -> usize
-    ensures { λ r. ⌜ lent (now (state .exit)) (now (memory .exit)) (now (answer .exit)) (lists r (now (values .exit)) (now (widths .exit)) (now (pcs .exit))) ≡ running mode fuel (lent (now (state .entry)) (now (memory .entry)) (now (answer .entry)) (lists count (now (values .entry)) (now (widths .entry)) (now (pcs .entry)))) ⌝ }
+    ensures { λ r. ⌜ machineCall (now (state .exit)) (now (memory .exit)) (now (answer .exit)) (lists r (now (values .exit)) (now (bounds .exit)) (now (pcs .exit))) ≡ running mode fuel (machineCall (now (state .entry)) (now (memory .entry)) (now (answer .entry)) (lists count (now (values .entry)) (now (bounds .entry)) (now (pcs .entry)))) ⌝ }
 {
     if !legible(state, mode) {
         write_answer(answer, 9, 0, 0);
         return count;
     }
     let s = read_state(state);
-    let r = run_by(mode_of(mode), s, fuel, memory, values, widths, pcs, count);
+    let r = run_by(mode_of(mode), s, fuel, memory, values, bounds, pcs, count);
     leave_run(state, answer, r);
     r.count
 }

@@ -28,8 +28,8 @@ pub(crate) fn refused(r: Refusal) -> Triple
     ensures { λ t. ⌜ t ≡ refusalTriple r ⌝ }
 {
     Triple {
-        first: refusal::number(r),
+        first: refusal::number_of(r),
         second: 0,
-        third: refusal::particular(r),
+        third: refusal::particular_of(r),
     }
 }

@@ -23,12 +23,12 @@ use Rattle.layout.specs.Reading.{readIn}
 use Rattle.layout.specs.declared.reading.Reading.{Reading}
 use Rattle.layout.specs.Layout.{STATE_BYTES, stateBytes, stateIn, recordLaid, wellLaid, written}
 use Rattle.layout.specs.Answer.{ANSWER_BYTES, answerBytes}
-use Rattle.host.specs.Call.{modeOf, none, stateOf, called, taken, ranOn, callOf}
-use Rattle.host.specs.Unlisted.{unlisted}
+use Rattle.host.specs.Call.{modeOf, none, stateOf, called, callTaken, ranOn, callOf}
+use Rattle.host.specs.Unlisted.{unlistedRun}
 
 -- a leg of a state that is not halted
 pub one-leg : (c : Choices) (fuel : ℕ) (w : World) (a : Leg) → w .halted ≡ false → a ≡ legIn fuel (c .mode) Unlent (rulesOf c) w
-    → answer (stopOf (a .went)) (a .steps) (a .world) none ≡ unlisted c fuel w
+    → answer (stopOf (a .went)) (a .steps) (a .world) none ≡ unlistedRun c fuel w
 unfolding roomAt
 one-leg c fuel w a h e =
     ap (λ (a : Leg). answer (stopOf (a .went)) (a .steps) (a .world) none) e
@@ -47,7 +47,7 @@ last-of-four true false c d e = (cc, cc)
 last-of-four false b c d e = (cc, cc)
 
 module _ (st m an : List ℕ) (fuel mode : ℕ) where
-  refused : (code : ℕ) (an′ : List ℕ) → taken st an mode ≡ false → code ≡ 9 → an′ ≡ written ANSWER_BYTES (answerBytes 9 0 0) an
+  refused : (code : ℕ) (an′ : List ℕ) → callTaken st an mode ≡ false → code ≡ 9 → an′ ≡ written ANSWER_BYTES (answerBytes 9 0 0) an
       → called code st m an′ ≡ callOf st m an fuel mode
   unfolding callOf
   refused code an′ t c e = rw (t, c, e)
@@ -55,12 +55,12 @@ module _ (st m an : List ℕ) (fuel mode : ℕ) where
   pub call-refused : (code : ℕ) (an′ : List ℕ) (r : Reading) (t : Bool) → r ≡ readIn st
       → t ≡ (eqb (length an) ANSWER_BYTES && leb mode 1 && r .laid && admits (modeOf mode) (registersOf (r .state))) → t ≡ false
       → (code ≡ 9) × (an′ ≡ written ANSWER_BYTES (answerBytes 9 0 0) an) → called code st m an′ ≡ callOf st m an fuel mode
-  unfolding taken
+  unfolding callTaken
   call-refused code an′ r t e q f h = refused code an′ ((rw e at (sym q)) ∙ f) (h .0) (h .1)
 
   pub call-of-another-length : (code : ℕ) (an′ : List ℕ) → (length st ≡ STATE_BYTES → ⊥)
       → (code ≡ 9) × (an′ ≡ written ANSWER_BYTES (answerBytes 9 0 0) an) → called code st m an′ ≡ callOf st m an fuel mode
-  unfolding taken wellLaid
+  unfolding callTaken wellLaid
   call-of-another-length code an′ n h =
       refused code an′ (rw (ne-eqb (length st) STATE_BYTES n) (none-of (eqb (length an) ANSWER_BYTES) (leb mode 1))) (h .0) (h .1)
     where
@@ -69,15 +69,15 @@ module _ (st m an : List ℕ) (fuel mode : ℕ) where
       none-of true false = refl
       none-of false b = refl
 
-  module _ (t : taken st an mode ≡ true) where
+  module _ (t : callTaken st an mode ≡ true) where
     -- a taken call has the sizes that are written
     answer-size : length an ≡ ANSWER_BYTES
-    unfolding taken
+    unfolding callTaken
     answer-size =
         eqb-true _ _ (first-of-four (eqb (length an) ANSWER_BYTES) (leb mode 1) (wellLaid st) (admits (modeOf mode) (registersOf (stateIn st))) t)
 
     allowed : (wellLaid st ≡ true) × (admits (modeOf mode) (registersOf (stateIn st)) ≡ true)
-    unfolding taken
+    unfolding callTaken
     allowed = last-of-four (eqb (length an) ANSWER_BYTES) (leb mode 1) (wellLaid st) (admits (modeOf mode) (registersOf (stateIn st))) t
 
     state-size : wellLaid st ≡ true → length st ≡ STATE_BYTES
@@ -85,11 +85,11 @@ module _ (st m an : List ℕ) (fuel mode : ℕ) where
     state-size e =
         eqb-true _ _ (first-of-four (eqb (length st) STATE_BYTES) (leb (numberAt 1 st 8) 1) (eqb (numberAt 7 st 9) 0) (allBelow (recordLaid st) 16) e)
 
-    ran : unlisted (record { mode = modeOf mode }) fuel (worldOf (stateIn st) m) ≡ ranOn mode fuel (stateIn st) m
+    ran : unlistedRun (record { mode = modeOf mode }) fuel (worldOf (stateIn st) m) ≡ ranOn mode fuel (stateIn st) m
     unfolding run
     ran = rw (allowed .1)
 
-    served-call : (a : Answer) (st′ an′ : List ℕ) (code : ℕ) → a ≡ unlisted (record { mode = modeOf mode }) fuel (worldOf (stateIn st) m)
+    served-call : (a : Answer) (st′ an′ : List ℕ) (code : ℕ) → a ≡ unlistedRun (record { mode = modeOf mode }) fuel (worldOf (stateIn st) m)
         → code ≡ codeOf (a .stop) → st′ ≡ written STATE_BYTES (stateBytes (stateOf (a .world))) st
         → an′ ≡ written ANSWER_BYTES (answerBytes (codeOf (a .stop)) (a .steps) (particularAt (a .stop))) an
         → called code st′ (a .world .memory) an′ ≡ callOf st m an fuel mode
@@ -99,10 +99,10 @@ module _ (st m an : List ℕ) (fuel mode : ℕ) where
 
   pub call-served : (r : Reading) (t : Bool) → r ≡ readIn st
       → t ≡ (eqb (length an) ANSWER_BYTES && leb mode 1 && r .laid && admits (modeOf mode) (registersOf (r .state))) → t ≡ true
-      → (a : Answer) (st′ an′ : List ℕ) (code : ℕ) → a ≡ unlisted (record { mode = modeOf mode }) fuel (worldOf (r .state) m)
+      → (a : Answer) (st′ an′ : List ℕ) (code : ℕ) → a ≡ unlistedRun (record { mode = modeOf mode }) fuel (worldOf (r .state) m)
       → (code ≡ codeOf (a .stop)) × (st′ ≡ written STATE_BYTES (stateBytes (stateOf (a .world))) st)
       × (an′ ≡ written ANSWER_BYTES (answerBytes (codeOf (a .stop)) (a .steps) (particularAt (a .stop))) an)
       → called code st′ (a .world .memory) an′ ≡ callOf st m an fuel mode
-  unfolding taken
+  unfolding callTaken
   call-served r t e q f a st′ an′ code h l =
       served-call ((rw e at (sym q)) ∙ f) a st′ an′ code (rw e at h) (l .0) (l .1) (l .2)

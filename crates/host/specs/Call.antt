@@ -43,12 +43,12 @@ abbrev pub called : ℕ → List ℕ → List ℕ → List ℕ → Called
 called code st m an = record { code = code; state = st; memory = m; answer = an }
 
 -- "A wrong length, mode or any state these rules forbid, its header too, gives 9": a state is taken if the mode's run admits it
-unfoldable pub taken : List ℕ → List ℕ → ℕ → Bool
-taken st an mode = eqb (length an) ANSWER_BYTES && leb mode 1 && wellLaid st && admits (modeOf mode) (registersOf (stateIn st))
+unfoldable pub callTaken : List ℕ → List ℕ → ℕ → Bool
+callTaken st an mode = eqb (length an) ANSWER_BYTES && leb mode 1 && wellLaid st && admits (modeOf mode) (registersOf (stateIn st))
 
 -- "code, steps, particular"; "The call also returns the code"
-abbrev pub served : Answer → Called
-served a =
+abbrev pub callServed : Answer → Called
+callServed a =
     called
     (codeOf (a .stop))
     (stateBytes (stateOf (a .world)))
@@ -58,4 +58,4 @@ served a =
 -- "Then a 24-byte answer holds 9, 0, 0; one of another length isn't written"
 unfoldable pub callOf : List ℕ → List ℕ → List ℕ → ℕ → ℕ → Called
 callOf st m an fuel mode =
-    cond (taken st an mode) (served (ranOn mode fuel (stateIn st) m)) (called 9 st m (written ANSWER_BYTES (answerBytes 9 0 0) an))
+    cond (callTaken st an mode) (callServed (ranOn mode fuel (stateIn st) m)) (called 9 st m (written ANSWER_BYTES (answerBytes 9 0 0) an))

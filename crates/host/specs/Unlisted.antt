@@ -8,5 +8,5 @@ use Rattle.execute.specs.declared.Choices.{Choices}
 use Rattle.run.specs.Run.{Answer, answer, loop}
 use Rattle.host.specs.Call.{none}
 
-abbrev pub unlisted : Choices → ℕ → World → Answer
-unlisted c fuel w = cond (w .halted) (answer S.Ebreak 0 w none) (loop fuel (c .mode) (rulesOf c) w none)
+abbrev pub unlistedRun : Choices → ℕ → World → Answer
+unlistedRun c fuel w = cond (w .halted) (answer S.Ebreak 0 w none) (loop fuel (c .mode) (rulesOf c) w none)

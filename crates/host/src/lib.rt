@@ -24,7 +24,7 @@ ghost use Rattle.layout.specs.Layout.{STATE_BYTES, stateBytes, written};
 ghost use Rattle.layout.specs.Answer.{ANSWER_BYTES, answerBytes};
 ghost use Rattle.run.specs.Run.{answer};
 ghost use Rattle.host.specs.Call.{modeOf, none, called, callOf};
-ghost use Rattle.host.specs.Unlisted.{unlisted};
+ghost use Rattle.host.specs.Unlisted.{unlistedRun};
 
 // "0 plain or 1 deferred": whoever calls it has refused any other.
 pub fn mode_of(n: u64) -> Mode
@@ -36,7 +36,7 @@ pub fn mode_of(n: u64) -> Mode
     Mode::Deferred
 }
 
-fn takes(r: Reading, answer: usize, mode: u64) -> bool
+fn call_taken(r: Reading, answer: usize, mode: u64) -> bool
     ensures { λ t. ⌜ t ≡ (eqb answer ANSWER_BYTES && leb mode 1 && r .laid && admits (modeOf mode) (registersOf (r .state))) ⌝ }
 {
     if answer != ANSWER_BYTES {
@@ -54,7 +54,7 @@ fn takes(r: Reading, answer: usize, mode: u64) -> bool
 
 // The run of a state that its mode takes, with no list lent: one leg.
 fn run_taken(choices: Choices, s: State, fuel: u64, m: &mut [u8]) -> Ran
-    ensures { λ r. ⌜ answer (r .stop) (r .steps) (worldOf (r .state) (now (m .exit))) none ≡ unlisted choices fuel (worldOf s (now (m .entry))) ⌝ }
+    ensures { λ r. ⌜ answer (r .stop) (r .steps) (worldOf (r .state) (now (m .exit))) none ≡ unlistedRun choices fuel (worldOf s (now (m .entry))) ⌝ }
 {
     if s.halted {
         return Ran {
@@ -81,7 +81,7 @@ fn leave(state: &mut [u8], answer: &mut [u8], r: Ran) -> u64
 {
     let stop = r.stop;
     let after = r.state;
-    let code = refusal::code(stop);
+    let code = refusal::code_of(stop);
     write_state(state, after);
     write_answer(answer, code, r.steps, refusal::particular_at(stop));
     code
@@ -110,7 +110,7 @@ pub extern "C" fn zkir_run(
         return malformed(answer);
     }
     let r = read(state);
-    if !takes(r, answer.len(), mode) {
+    if !call_taken(r, answer.len(), mode) {
         return malformed(answer);
     }
     let choices = Choices {

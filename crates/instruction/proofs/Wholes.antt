@@ -2,7 +2,7 @@
 use Prim.Native.Nat.{ℕ}
 use mathlib.Core.Path.{_≡_, refl, sym, ap, _∙_}
 use Rattle.opcode.specs.Opcodes.{formOf, all}
-use Rattle.instruction.specs.Operands.{built, joinedOf, partsOf}
+use Rattle.instruction.specs.Operands.{built, instructionOf, partsOf}
 use Rattle.opcode.specs.declared.Opcode.{Opcode}
 use Rattle.opcode.specs.declared.Opcode.the-variants as O
 use Rattle.opcode.specs.declared.Form.{Form}
@@ -43,7 +43,7 @@ kept-op B p = refl
 kept-op J p = refl
 kept-op Alone p = refl
 
-pub parts-joined : (p : Parts) → partsOf (joinedOf p) ≡ kept (formOf (p .op)) p
+pub parts-joined : (p : Parts) → partsOf (instructionOf p) ≡ kept (formOf (p .op)) p
 unfolding kept all
 parts-joined p =
     everywhere all O.Add place all-at
@@ -53,7 +53,7 @@ parts-joined p =
     refl
     (p .op)
 
-pub joined-parts : (i : Instruction) → joinedOf (partsOf i) ≡ i
+pub joined-parts : (i : Instruction) → instructionOf (partsOf i) ≡ i
 joined-parts (N.Add rd rs1 rs2) = refl
 joined-parts (N.Sub rd rs1 rs2) = refl
 joined-parts (N.Addi rd rs1 imm) = refl
@@ -106,8 +106,8 @@ joined-parts N.Ecall = refl
 joined-parts N.Ebreak = refl
 
 -- the other operands are ignored
-pub joined-kept : (p : Parts) → joinedOf (kept (formOf (p .op)) p) ≡ joinedOf p
-joined-kept p = ap joinedOf (sym (parts-joined p)) ∙ joined-parts (joinedOf p)
+pub joined-kept : (p : Parts) → instructionOf (kept (formOf (p .op)) p) ≡ instructionOf p
+joined-kept p = ap instructionOf (sym (parts-joined p)) ∙ joined-parts (instructionOf p)
 
 -- the parts of an instruction have 0 for them
 pub parts-kept : (i : Instruction) → partsOf i ≡ kept (formOf (partsOf i .op)) (partsOf i)

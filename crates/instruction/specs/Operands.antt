@@ -77,8 +77,8 @@ built O.Jalr a b c imm = N.Jalr a b imm
 built O.Ecall a b c imm = N.Ecall
 built O.Ebreak a b c imm = N.Ebreak
 
-abbrev pub joinedOf : Parts → Instruction
-joinedOf p = built (p .op) (p .a) (p .b) (p .c) (p .imm)
+abbrev pub instructionOf : Parts → Instruction
+instructionOf p = built (p .op) (p .a) (p .b) (p .c) (p .imm)
 
 abbrev pub ofDivision : Division → Opcode
 ofDivision Dv.Div = O.Div

@@ -2,7 +2,7 @@
 pub mod operands;
 
 use opcode::Opcode;
-pub use operands::joined;
+pub use operands::instruction_of;
 pub use operands::parts_of;
 
 // The instructions, by what they need. An immediate is its signed number modulo 2^64, as `*imm as u64` in the Rust.

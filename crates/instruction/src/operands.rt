@@ -10,7 +10,7 @@ use super::Parts;
 use super::StoreKind;
 use opcode::Opcode;
 ghost use mathlib.Core.Path.{_≡_};
-ghost use Rattle.instruction.specs.Operands.{joinedOf, partsOf, three, two, divisionOf, operationOf, immOperationOf, moveOf, loadOf, storeOf, branchOf, ofDivision, ofOperation, ofImmOperation, ofMove, ofLoad, ofStore, ofBranch};
+ghost use Rattle.instruction.specs.Operands.{instructionOf, partsOf, three, two, divisionOf, operationOf, immOperationOf, moveOf, loadOf, storeOf, branchOf, ofDivision, ofOperation, ofImmOperation, ofMove, ofLoad, ofStore, ofBranch};
 
 fn division(op: Opcode) -> Division
     ensures { λ r. ⌜ r ≡ divisionOf op ⌝ }
@@ -181,8 +181,8 @@ fn branch(op: BranchKind, p: Parts) -> Instruction
 }
 
 // The operands that the opcode lacks are ignored.
-pub fn joined(p: Parts) -> Instruction
-    ensures { λ r. ⌜ r ≡ joinedOf p ⌝ }
+pub fn instruction_of(p: Parts) -> Instruction
+    ensures { λ r. ⌜ r ≡ instructionOf p ⌝ }
 {
     let op = p.op;
     match op {

@@ -8,7 +8,7 @@ use lib.Dec.{ltb, leb, eqb, lit<}
 use borrow.Author.Tests.{lt-ltb, le-ltb, leb-true, leb-false, eqb-true, eqb-false}
 use lib.ListN.{length, take, drop, getD, length-drop, take-append-drop}
 use lib.Seq.{sets, drop-drop, getD-drop, take-all}
-use Rattle.memory.specs.Bytes.{number, bytes, numberAt, putAt}
+use Rattle.memory.specs.Bytes.{numberOfBytes, bytes, numberAt, putAt}
 use Rattle.memory.proofs.Numbers.{read-stored}
 use Rattle.layout.proofs.Rows.{sets-next, sets-all}
 
@@ -22,7 +22,7 @@ pub stored-next : (n v : ℕ) (l : List ℕ) (at next : ℕ) (ys : List ℕ) →
 stored-next n v l at next ys e = sets-next l at next (bytes n v) ys (rw length-bytes e)
 
 -- the bytes of a number, read
-pub number-bytes : (n v : ℕ) → v < 256 ^ n → number (bytes n v) ≡ v
+pub number-bytes : (n v : ℕ) → v < 256 ^ n → numberOfBytes (bytes n v) ≡ v
 number-bytes n v small =
     let long : length (bytes n v) ≡ n = length-bytes n v in
     (rw (sets-all (bytes n v) (bytes n v) refl, take-all n (bytes n v) (omega arith)) at (read-stored n (bytes n v) 0 v (omega arith) small))
@@ -32,13 +32,13 @@ abbrev pub Small : List ℕ → Type 0
 Small b = (k : ℕ) → getD b k 0 < 256
 
 -- the number of some bytes, written
-bytes-number : (n : ℕ) (b : List ℕ) → Small b → n ≤ length b → bytes n (number (take n b)) ≡ take n b
-unfolding bytes number
+bytes-number : (n : ℕ) (b : List ℕ) → Small b → n ≤ length b → bytes n (numberOfBytes (take n b)) ≡ take n b
+unfolding bytes numberOfBytes
 bytes-number zero b small h = refl
 bytes-number (suc n) [] small h = absurd (omega arith)
 bytes-number (suc n) (x ∷ b) small h =
-    let low : (number (take n b) * 256 + x) % 256 ≡ x = omega (arith, small 0) in
-    let rest : (number (take n b) * 256 + x) / 256 ≡ number (take n b) = omega (arith, small 0) in
+    let low : (numberOfBytes (take n b) * 256 + x) % 256 ≡ x = omega (arith, small 0) in
+    let rest : (numberOfBytes (take n b) * 256 + x) / 256 ≡ numberOfBytes (take n b) = omega (arith, small 0) in
     rw (low, rest, bytes-number n b (λ k. small (suc k)) (omega arith))
 
 -- a number read and written, and what follows it
@@ -49,22 +49,22 @@ read-next n b at next small e fits read =
 
 -- a number of one byte more: its lowest byte, and the number of those above it
 one-more : (n : ℕ) (b : List ℕ) (at : ℕ) → numberAt (suc n) b at ≡ numberAt n b (at + 1) * 256 + numberAt 1 b at
-unfolding number
+unfolding numberOfBytes
 one-more n b at = rw (← drop-drop 1 at b) (by (drop at b))
   where
-    none : (n : ℕ) → number (take n []) ≡ 0
+    none : (n : ℕ) → numberOfBytes (take n []) ≡ 0
     none zero = refl
     none (suc n) = refl
 
-    by : (l : List ℕ) → number (take (suc n) l) ≡ number (take n (drop 1 l)) * 256 + number (take 1 l)
+    by : (l : List ℕ) → numberOfBytes (take (suc n) l) ≡ numberOfBytes (take n (drop 1 l)) * 256 + numberOfBytes (take 1 l)
     by [] = rw (none n)
     by (x ∷ l) = omega arith
 
 byte-small : (b : List ℕ) (at : ℕ) → Small b → numberAt 1 b at < 256
-unfolding number
+unfolding numberOfBytes
 byte-small b at small = by (drop at b) (λ k. rw getD-drop (small (at + k)))
   where
-    by : (l : List ℕ) → Small l → number (take 1 l) < 256
+    by : (l : List ℕ) → Small l → numberOfBytes (take 1 l) < 256
     by [] low = lit< tt
     by (x ∷ l) low = omega (arith, low 0)
 

@@ -10,7 +10,7 @@ use lib.Dec.{leb, eqb}
 use lib.ListN.{length, drop, getD, drop-of-length-le}
 use lib.Seq.{drop-drop, drop-append-add}
 use borrow.Author.Tests.{eqb-true, leb-true, le-leb}
-use Rattle.memory.specs.Bytes.{bytes, number, numberAt}
+use Rattle.memory.specs.Bytes.{bytes, numberOfBytes, numberAt}
 use Rattle.state.specs.Held.{Held, heldOf, kept, waits}
 use Rattle.state.specs.Registers.{Registers, holds, noted}
 use Rattle.state.specs.Formed.{limbsFit, registerFits, zeroFits, allBelow, wellFormed, registersOf}
@@ -95,7 +95,7 @@ module _ (h : Held) (bound : ℕ) (rest : List ℕ) where
   bound-written = number-bytes 1 bound
 
   zeros-written : numberAt 6 (recordBytes h bound ++ rest) 2 ≡ 0
-  unfolding recordBytes bytes number
+  unfolding recordBytes bytes numberOfBytes
   zeros-written = refl
 
   first-written : firstOf h < 2 ^ 64 → numberAt 8 (recordBytes h bound ++ rest) 8 ≡ firstOf h
@@ -187,7 +187,7 @@ module _ (s : State) (shape : Shaped s) (limbs : (i : ℕ) → i < 16 → limbsF
   mark-read = number-bytes 1 (markOf (s .halted)) (omega (arith, mark-small (s .halted)))
 
   zeros-read : numberAt 7 (stateBytes s) 9 ≡ 0
-  unfolding stateBytes headerBytes bytes number
+  unfolding stateBytes headerBytes bytes numberOfBytes
   zeros-read = refl
 
   pub read-back : stateIn (stateBytes s) ≡ s

@@ -7,12 +7,12 @@ use lib.Dec.{leb, eqb}
 use Rattle.memory.specs.Bytes.{numberAt}
 use Rattle.layout.specs.Layout.{STATE_BYTES, numbersFit, stateIn, wellLaid}
 use Rattle.layout.specs.declared.records.Record.{Record}
-use Rattle.layout.specs.declared.reading.Parts.{Parts}
+use Rattle.layout.specs.declared.reading.RecordParts.{RecordParts}
 use Rattle.layout.specs.declared.reading.Reading.{Reading}
 
 -- the first number is taken apart
-abbrev pub partsOf : Record → Parts
-partsOf r =
+abbrev pub recordParts : Record → RecordParts
+recordParts r =
     record {
       kind = r .head % 2 ^ 8;
       bound = r .head / 2 ^ 8 % 2 ^ 8;
@@ -21,7 +21,7 @@ partsOf r =
       second = r .second;
     }
 
-abbrev pub partsAt : List ℕ → ℕ → Parts
+abbrev pub partsAt : List ℕ → ℕ → RecordParts
 partsAt b at =
     record {
       kind = numberAt 1 b at;
@@ -31,7 +31,7 @@ partsAt b at =
       second = numberAt 8 b (at + 16);
     }
 
-abbrev pub partsLaid : Parts → Bool
+abbrev pub partsLaid : RecordParts → Bool
 partsLaid p = eqb (p .zeros) 0 && numbersFit (p .kind) (p .first) (p .second)
 
 abbrev pub headerLaid : List ℕ → Bool

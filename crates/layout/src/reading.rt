@@ -12,10 +12,10 @@ ghost use mathlib.Core.Bool.{_&&_};
 ghost use Prim.Native.Nat.{_≤_};
 ghost use Rattle.state.specs.Held.{kept};
 ghost use Rattle.layout.specs.Layout.{STATE_BYTES, heldBy, numbersFit, stateIn};
-ghost use Rattle.layout.specs.Reading.{headerLaid, partsOf, partsAt, partsLaid, readIn};
+ghost use Rattle.layout.specs.Reading.{headerLaid, recordParts, partsAt, partsLaid, readIn};
 
 // The parts of a register's record.
-struct Parts {
+struct RecordParts {
     kind: u8,
     bound: u8,
     zeros: u64,
@@ -29,10 +29,10 @@ pub struct Reading {
     pub laid: bool,
 }
 
-fn parts_of(r: Record) -> Parts
-    ensures { λ p. ⌜ p ≡ partsOf r ⌝ }
+fn record_parts(r: Record) -> RecordParts
+    ensures { λ p. ⌜ p ≡ recordParts r ⌝ }
 {
-    Parts {
+    RecordParts {
         kind: (r.head % 0x100) as u8,
         bound: (r.head / 0x100 % 0x100) as u8,
         zeros: r.head / 0x1_0000,
@@ -41,11 +41,11 @@ fn parts_of(r: Record) -> Parts
     }
 }
 
-fn parts_at(bytes: &[u8], at: usize) -> Parts
+fn parts_at(bytes: &[u8], at: usize) -> RecordParts
     requires { ⌜ at ≤ STATE_BYTES ⌝ }
     ensures { λ p. ⌜ p ≡ partsAt (now (bytes .entry)) at ⌝ }
 {
-    parts_of(numbers_at(bytes, at))
+    record_parts(numbers_at(bytes, at))
 }
 
 // How the register is kept.
@@ -73,7 +73,7 @@ fn numbers_fit(kind: u8, first: u64, second: u64) -> bool
     second == 0
 }
 
-fn parts_laid(p: Parts) -> bool
+fn parts_laid(p: RecordParts) -> bool
     ensures { λ r. ⌜ r ≡ partsLaid p ⌝ }
 {
     if p.zeros != 0 {

@@ -18,7 +18,7 @@ use Rattle.step.specs.declared.OneStep.{OneStep}
 use Rattle.step.proofs.Steps.{step-malformed}
 use Rattle.checked.specs.Machine.{steppedOver}
 use Rattle.checks.specs.declared.Pending.{Pending}
-use Rattle.lent.specs.Lent.{lentLeft, laid, served, after, stepLent}
+use Rattle.lent.specs.Lent.{lentStep, laid, lentServed, recordAfter, stepLent}
 use Rattle.lent.specs.Inner.{shut, readied, concluded}
 use Rattle.lent.specs.declared.exported.Lent.{Lent}
 use Rattle.lent.specs.declared.exported.Ready.{Ready}
@@ -30,15 +30,15 @@ refuses : (m : List ℕ) (l : Lists) → left (W.Refused (refusalOf 9 0)) (world
 unfolding admits wellFormed zeroFits isZero heldOf
 refuses m l = step-malformed Deferred documentRules (worldOf shut m) l refl
 
-stepped-is : (mode : ℕ) (r : Lent) (m : List ℕ) (l : Lists) → served r (step (readied r mode .choices .mode) documentRules (worldOf (readied r mode .state) m) l) ≡ stepLent mode r m l
-unfolding readied stepLent after
+stepped-is : (mode : ℕ) (r : Lent) (m : List ℕ) (l : Lists) → lentServed r (step (readied r mode .choices .mode) documentRules (worldOf (readied r mode .state) m) l) ≡ stepLent mode r m l
+unfolding readied stepLent recordAfter
 stepped-is mode r m l = told (leb mode 1 && laid r) refl
   where
-    told : (t : Bool) → (leb mode 1 && laid r) ≡ t → served r (step (readied r mode .choices .mode) documentRules (worldOf (readied r mode .state) m) l) ≡ stepLent mode r m l
+    told : (t : Bool) → (leb mode 1 && laid r) ≡ t → lentServed r (step (readied r mode .choices .mode) documentRules (worldOf (readied r mode .state) m) l) ≡ stepLent mode r m l
     told true e = rw e
     told false e = rw (e, ← refuses m l)
 
 pub says-lent : (mode : ℕ) (r : Lent) (m m′ : List ℕ) (n : ℕ) (l l′ : List Pending) (a : Ready) (s : OneStep) (d : Done) → a ≡ readied r mode
     → steppedOver s m′ l′ ≡ step (a .choices .mode) (rulesOf (a .choices)) (worldOf (a .state) m) (listed n l) → d ≡ concluded r s
-    → lentLeft (d .answer) (d .lent) m′ (listed (d .answer .count) l′) ≡ stepLent mode r m (listed n l)
-says-lent mode r m m′ n l l′ a s d e f g = rw g (ap (λ (x : Left). served r x) f ∙ rw e (stepped-is mode r m (listed n l)))
+    → lentStep (d .answer) (d .lent) m′ (listed (d .answer .count) l′) ≡ stepLent mode r m (listed n l)
+says-lent mode r m m′ n l l′ a s d e f g = rw g (ap (λ (x : Left). lentServed r x) f ∙ rw e (stepped-is mode r m (listed n l)))

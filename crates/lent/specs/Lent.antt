@@ -17,7 +17,7 @@ use Rattle.run.specs.Run.{stopOf}
 use Rattle.layout.specs.Layout.{markOf, table}
 use Rattle.host.specs.Call.{modeOf, stateOf}
 use Rattle.lent.specs.declared.exported.Lent.{Lent}
-use Rattle.lent.specs.declared.exported.Answer.{Answer}
+use Rattle.lent.specs.declared.exported.StepAnswer.{StepAnswer}
 
 -- "halt mark 0 or 1", "kind 0 or 1"; what else the rules forbid of a state, its step refuses
 abbrev pub markFits : List ℕ → ℕ → Bool
@@ -27,8 +27,8 @@ unfoldable pub laid : Lent → Bool
 laid r = leb (r .halted) 1 && allBelow (markFits (r .kinds)) 16
 
 -- a state's numbers, and the state of such numbers
-unfoldable pub stateIn : Lent → State
-stateIn r =
+unfoldable pub stateOfLent : Lent → State
+stateOfLent r =
     record {
       pc = r .pc;
       halted = eqb (r .halted) 1;
@@ -37,8 +37,8 @@ stateIn r =
       bounds = r .bounds;
     }
 
-unfoldable pub numbersOf : State → Lent
-numbersOf s =
+unfoldable pub lentOf : State → Lent
+lentOf s =
     record {
       pc = s .pc;
       halted = markOf (s .halted);
@@ -48,29 +48,29 @@ numbersOf s =
     }
 
 -- a refused step leaves the record as it was
-unfoldable pub after : Lent → Went → State → Lent
-after r W.On s = numbersOf s
-after r W.Ebreak s = numbersOf s
-after r W.Ecall s = numbersOf s
-after r (W.Refused x) s = r
+unfoldable pub recordAfter : Lent → Went → State → Lent
+recordAfter r W.On s = lentOf s
+recordAfter r W.Ebreak s = lentOf s
+recordAfter r W.Ecall s = lentOf s
+recordAfter r (W.Refused x) s = r
 
 -- what the call leaves
-pub record Stepped : Type 0 where
-  pub answer : Answer
+pub record LentStep : Type 0 where
+  pub answer : StepAnswer
   pub state : Lent
   pub memory : List ℕ
   pub lists : Lists
 
-abbrev pub lentLeft : Answer → Lent → List ℕ → Lists → Stepped
-lentLeft a r m l = record { answer = a; state = r; memory = m; lists = l }
+abbrev pub lentStep : StepAnswer → Lent → List ℕ → Lists → LentStep
+lentStep a r m l = record { answer = a; state = r; memory = m; lists = l }
 
 -- code and particular are those of the stop that ends a run there; 0 where it goes on
-abbrev pub answerOf : Went → ℕ → Answer
+abbrev pub answerOf : Went → ℕ → StepAnswer
 answerOf g n = record { code = codeOf (stopOf g); particular = particularAt (stopOf g); count = n }
 
-abbrev pub served : Lent → Left → Stepped
-served r s = lentLeft (answerOf (s .went) (s .lists .count)) (after r (s .went) (stateOf (s .world))) (s .world .memory) (s .lists)
+abbrev pub lentServed : Lent → Left → LentStep
+lentServed r s = lentStep (answerOf (s .went) (s .lists .count)) (recordAfter r (s .went) (stateOf (s .world))) (s .world .memory) (s .lists)
 
-unfoldable pub stepLent : ℕ → Lent → List ℕ → Lists → Stepped
+unfoldable pub stepLent : ℕ → Lent → List ℕ → Lists → LentStep
 stepLent mode r m l =
-    cond (leb mode 1 && laid r) (served r (step (modeOf mode) documentRules (worldOf (stateIn r) m) l)) (lentLeft (answerOf (W.Refused (refusalOf 9 0)) (l .count)) r m l)
+    cond (leb mode 1 && laid r) (lentServed r (step (modeOf mode) documentRules (worldOf (stateOfLent r) m) l)) (lentStep (answerOf (W.Refused (refusalOf 9 0)) (l .count)) r m l)

@@ -13,7 +13,7 @@ ghost use lib.Dec.{leb};
 ghost use Rattle.state.specs.Formed.{allBelow};
 ghost use Rattle.layout.specs.Layout.{markOf};
 ghost use Rattle.checks.specs.Records.{listed};
-ghost use Rattle.lent.specs.Lent.{markFits, laid, stateIn, numbersOf, after, lentLeft, stepLent};
+ghost use Rattle.lent.specs.Lent.{markFits, laid, stateOfLent, lentOf, recordAfter, lentStep, stepLent};
 ghost use Rattle.lent.specs.Inner.{readied, concluded};
 
 // Mark and kinds are 0 or 1. The values are kept as the state keeps them: of an accumulated register low + 2^30 * high.
@@ -28,7 +28,7 @@ pub struct Lent {
 
 // The stop's code, 0 where the run goes on; its particular; and the count of the list.
 #[repr(C)]
-pub struct Answer {
+pub struct StepAnswer {
     pub code: u64,
     pub particular: u64,
     pub count: usize,
@@ -40,7 +40,7 @@ struct Ready {
 }
 
 struct Done {
-    answer: Answer,
+    answer: StepAnswer,
     lent: Lent,
 }
 
@@ -57,7 +57,7 @@ fn kinds_fit(kinds: &[u8; 16]) -> bool
     true
 }
 
-fn takes(r: Lent, mode: u64) -> bool
+fn lent_taken(r: Lent, mode: u64) -> bool
     ensures { λ t. ⌜ t ≡ (leb mode 1 && laid r) ⌝ }
 {
     if 1 < mode {
@@ -76,8 +76,8 @@ fn kind_of(waits: bool) -> u8
     if waits { 1 } else { 0 }
 }
 
-fn state_in(r: Lent) -> State
-    ensures { λ s. ⌜ s ≡ stateIn r ⌝ }
+fn state_of_lent(r: Lent) -> State
+    ensures { λ s. ⌜ s ≡ stateOfLent r ⌝ }
 {
     let kinds = r.kinds;
     let mut accumulated = [false; 16];
@@ -91,8 +91,8 @@ fn state_in(r: Lent) -> State
     state::together(r.pc, r.halted == 1, regs, accumulated, bounds)
 }
 
-fn numbers_of(s: State) -> Lent
-    ensures { λ r. ⌜ r ≡ numbersOf s ⌝ }
+fn lent_of(s: State) -> Lent
+    ensures { λ r. ⌜ r ≡ lentOf s ⌝ }
 {
     let accumulated = s.accumulated;
     let mut kinds = [0u8; 16];
@@ -116,7 +116,7 @@ fn numbers_of(s: State) -> Lent
 fn prepare(r: Lent, mode: u64) -> Ready
     ensures { λ a. ⌜ a ≡ readied r mode ⌝ }
 {
-    if !takes(r, mode) {
+    if !lent_taken(r, mode) {
         return Ready {
             choices: Choices {
                 mode: Mode::Deferred,
@@ -125,7 +125,7 @@ fn prepare(r: Lent, mode: u64) -> Ready
         };
     }
     let mode = mode_of(mode);
-    let state = state_in(r);
+    let state = state_of_lent(r);
     Ready {
         choices: Choices { mode },
         state,
@@ -134,12 +134,12 @@ fn prepare(r: Lent, mode: u64) -> Ready
 
 // A refused step leaves the record as it was.
 fn record_after(r: Lent, went: Went, s: State) -> Lent
-    ensures { λ t. ⌜ t ≡ after r went s ⌝ }
+    ensures { λ t. ⌜ t ≡ recordAfter r went s ⌝ }
 {
     match went {
-        Went::On => numbers_of(s),
-        Went::Ebreak => numbers_of(s),
-        Went::Ecall => numbers_of(s),
+        Went::On => lent_of(s),
+        Went::Ebreak => lent_of(s),
+        Went::Ecall => lent_of(s),
         Went::Refused(_) => r,
     }
 }
@@ -151,8 +151,8 @@ fn conclude(r: Lent, d: OneStep) -> Done
     let state = d.state;
     let lent = record_after(r, went, state);
     let stop = stop_of(went);
-    let answer = Answer {
-        code: refusal::code(stop),
+    let answer = StepAnswer {
+        code: refusal::code_of(stop),
         particular: refusal::particular_at(stop),
         count: d.count,
     };
@@ -167,8 +167,8 @@ pub extern "C" fn zkir_step(
     list: &mut [Pending],
     count: usize,
     mode: u64,
-) -> Answer
-    ensures { λ r. ⌜ lentLeft r (now (state .exit)) (now (memory .exit)) (listed (r .count) (now (list .exit))) ≡ stepLent mode (now (state .entry)) (now (memory .entry)) (listed count (now (list .entry))) ⌝ }
+) -> StepAnswer
+    ensures { λ r. ⌜ lentStep r (now (state .exit)) (now (memory .exit)) (listed (r .count) (now (list .exit))) ≡ stepLent mode (now (state .entry)) (now (memory .entry)) (listed count (now (list .entry))) ⌝ }
 {
     let old = *state;
     let a = prepare(old, mode);

@@ -11,7 +11,7 @@ ghost use Rattle.checks.specs.Records.{listed};
 
 pub mod exported; // exported.rt: the same for a host over C, as a record of numbers
 
-pub struct Outcome {
+pub struct InPlace {
     pub went: Went,
     pub count: usize,
 }
@@ -23,13 +23,13 @@ pub fn step_in_place(
     m: &mut [u8],
     list: &mut [Pending],
     count: usize,
-) -> Outcome
+) -> InPlace
     ensures { λ r. ⌜ left (r .went) (worldOf (now (s .exit)) (now (m .exit))) (listed (r .count) (now (list .exit))) ≡ step (choices .mode) (rulesOf choices) (worldOf (now (s .entry)) (now (m .entry))) (listed count (now (list .entry))) ⌝ }
 {
     let old = *s;
     let r = checked::step(choices, old, m, list, count);
     *s = r.state;
-    Outcome {
+    InPlace {
         went: r.went,
         count: r.count,
     }

@@ -7,12 +7,12 @@ use native.Mathlib.Nat.{pow-suc, pow-le-pow-right, zero-min, min-zero, suc-min-s
 use lib.ListN.{length, take, drop, getD, set, length-take, length-drop, length-set}
 use lib.Seq.{drop-cons, sets, sets-eq, set-out, take-at, drop-at}
 use lib.Dec.{lit<}
-use Rattle.memory.specs.Bytes.{number, bytes, numberAt, putAt}
+use Rattle.memory.specs.Bytes.{numberOfBytes, bytes, numberAt, putAt}
 
 -- one more byte read, from the top down
 pub read-more : (mem : List ℕ) (at n i : ℕ) → zero < i → i ≤ n → at + n ≤ length mem
-    → number (take (n - i) (drop (at + i) mem)) * 256 + getD mem (at + (i - 1)) 0 ≡ number (take (n - (i - 1)) (drop (at + (i - 1)) mem))
-unfolding number
+    → numberOfBytes (take (n - i) (drop (at + i) mem)) * 256 + getD mem (at + (i - 1)) 0 ≡ numberOfBytes (take (n - (i - 1)) (drop (at + (i - 1)) mem))
+unfolding numberOfBytes
 read-more mem at n i p h fits =
     let e : n - (i - 1) ≡ suc (n - i) = omega arith in
     let d : at + i ≡ suc (at + (i - 1)) = omega arith in
@@ -22,7 +22,7 @@ read-more mem at n i p h fits =
 -- four bytes read one after another
 pub read-four : (mem : List ℕ) (at : ℕ) → at + 4 ≤ length mem
     → getD mem at 0 + getD mem (at + 1) 0 * 256 + getD mem (at + 2) 0 * 65536 + getD mem (at + 3) 0 * 16777216 ≡ numberAt 4 mem at
-unfolding number
+unfolding numberOfBytes
 read-four mem at fits =
     let e : suc at ≡ at + 1 = omega arith in
     let f : suc (at + 1) ≡ at + 2 = omega arith in
@@ -57,7 +57,7 @@ fits-lt n i v b n8 p h hv hb =
 
 -- bytes that are not there: none is read, and none is stored
 pub read-there : (n : ℕ) (m : List ℕ) (at : ℕ) → numberAt n m at ≡ numberAt (min n (length m - at)) m at
-read-there n m at = ap number (rw (← length-drop at m) (cut n (drop at m)))
+read-there n m at = ap numberOfBytes (rw (← length-drop at m) (cut n (drop at m)))
   where
     cut : (n : ℕ) (l : List ℕ) → take n l ≡ take (min n (length l)) l
     cut zero l = rw (zero-min (length l))
@@ -89,8 +89,8 @@ unfolding bytes
 length-bytes zero v = refl
 length-bytes (suc n) v = ap suc (length-bytes n (v / 256))
 
-number-bytes : (n v : ℕ) → v < 256 ^ n → number (bytes n v) ≡ v
-unfolding number bytes
+number-bytes : (n v : ℕ) → v < 256 ^ n → numberOfBytes (bytes n v) ≡ v
+unfolding numberOfBytes bytes
 number-bytes zero v h =
     let none : v < 1 = h in
     omega arith

@@ -10,7 +10,7 @@ use lib.Dec.{T, eqb, ltb, leb, eqb→eq}
 use mir.Facts.{and-yes}
 use borrow.Author.Tests.{eq-eqb, ne-eqb, eqb-true, ltb-true, leb-true}
 use Rattle.encoding.specs.Fields.{within}
-use Rattle.opcode.specs.Opcodes.{opcodeNumber, all, firstIn, opcodeIn}
+use Rattle.opcode.specs.Opcodes.{opcodeNumber, all, firstWith, opcodeIn}
 use Rattle.opcode.specs.declared.Opcode.{Opcode}
 use Rattle.opcode.specs.declared.Opcode.the-variants as O
 use Rattle.opcode.specs.declared.Found.{Found}
@@ -28,14 +28,14 @@ isOp Nothing = false
 
 module _ (num : Opcode → ℕ) where
   found-at : Numbering num → (os : List Opcode) (op : Opcode) (k : ℕ) → k < length os → getD os k O.Add ≡ op
-      → firstIn num os (num op) ≡ Op op
-  unfolding firstIn
+      → firstWith num os (num op) ≡ Op op
+  unfolding firstWith
   found-at N [] op k h e = absurd (not-suc-le-zero h)
   found-at N (o ∷ os) op zero h e = rw (eq-eqb (num op) (num o) (ap num (sym e))) (ap Op e)
   found-at N (o ∷ os) op (suc k) h e = by (eqb (num op) (num o)) refl (found-at N os op k (omega arith) e)
     where
-      by : (t : Bool) → eqb (num op) (num o) ≡ t → firstIn num os (num op) ≡ Op op
-          → cond t (Op o) (firstIn num os (num op)) ≡ Op op
+      by : (t : Bool) → eqb (num op) (num o) ≡ t → firstWith num os (num op) ≡ Op op
+          → cond t (Op o) (firstWith num os (num op)) ≡ Op op
       by true q r = ap Op (sym (N .distinct op o (eqb-true _ _ q)))
       by false q r = r
 
@@ -48,13 +48,13 @@ module _ (num : Opcode → ℕ) where
       small = everywhere all O.Add place all-at (λ (op : Opcode). ltb (place op) 50) (λ (op : Opcode). true) refl refl
 
   -- an opcode found for a number has that number, whatever the numbers are
-  pub number-found : (os : List Opcode) (n : ℕ) (op : Opcode) → firstIn num os n ≡ Op op → num op ≡ n
-  unfolding firstIn
+  pub number-found : (os : List Opcode) (n : ℕ) (op : Opcode) → firstWith num os n ≡ Op op → num op ≡ n
+  unfolding firstWith
   number-found [] n op e = let z : _≡_ {A = ℕ} 0 1 = cc in absurd (omega arith)
   number-found (o ∷ os) n op e = by (eqb n (num o)) refl (number-found os n op) e
     where
-      by : (t : Bool) → eqb n (num o) ≡ t → (firstIn num os n ≡ Op op → num op ≡ n)
-          → cond t (Op o) (firstIn num os n) ≡ Op op → num op ≡ n
+      by : (t : Bool) → eqb n (num o) ≡ t → (firstWith num os n ≡ Op op → num op ≡ n)
+          → cond t (Op o) (firstWith num os n) ≡ Op op → num op ≡ n
       by true q r e = let s : o ≡ op = cc in ap num (sym s) ∙ sym (eqb-true n (num o) q)
       by false q r e = r e
 
@@ -63,17 +63,17 @@ module _ (num : Opcode → ℕ) where
   Unlike U [] n = U
   Unlike U (o ∷ os) n = Unlike (U × (n ≡ num o → ⊥)) os n
 
-  late : (U : Type 0) (os ps : List Opcode) (n : ℕ) → Unlike U os n → U × (firstIn num (os ++ ps) n ≡ firstIn num ps n)
-  unfolding firstIn
+  late : (U : Type 0) (os ps : List Opcode) (n : ℕ) → Unlike U os n → U × (firstWith num (os ++ ps) n ≡ firstWith num ps n)
+  unfolding firstWith
   late U [] ps n u = (u, refl)
   late U (o ∷ os) ps n u =
       let h = late (U × (n ≡ num o → ⊥)) os ps n u in
       (h .0 .0, rw (ne-eqb n (num o) (h .0 .1)) (h .1))
 
   -- and so it is the last one's, if it is one's at all
-  pub last : (os : List Opcode) (o : Opcode) (n : ℕ) → Unlike (Unit {0}) os n → isOp (firstIn num (os ++ (o ∷ [])) n) ≡ true
-      → Op o ≡ firstIn num (os ++ (o ∷ [])) n
-  unfolding firstIn
+  pub last : (os : List Opcode) (o : Opcode) (n : ℕ) → Unlike (Unit {0}) os n → isOp (firstWith num (os ++ (o ∷ [])) n) ≡ true
+      → Op o ≡ firstWith num (os ++ (o ∷ [])) n
+  unfolding firstWith
   last os o n u e =
       let s = late (Unit {0}) os (o ∷ []) n u .1 in
       by (eqb n (num o)) (ap isOp (sym s) ∙ e) ∙ sym s

@@ -86,9 +86,9 @@ all =
     O.Beq ∷ O.Bne ∷ O.Blt ∷ O.Bge ∷ O.Bltu ∷ O.Bgeu ∷ O.Jal ∷ O.Jalr ∷ O.Ecall ∷ O.Ebreak ∷ []
 
 -- the opcode that has a number, in a numbering of the fifty; document 01's is `opcodeNumber`
-unfoldable pub firstIn : (Opcode → ℕ) → List Opcode → ℕ → Found
-firstIn num [] n = Nothing
-firstIn num (o ∷ os) n = cond (eqb n (num o)) (Op o) (firstIn num os n)
+unfoldable pub firstWith : (Opcode → ℕ) → List Opcode → ℕ → Found
+firstWith num [] n = Nothing
+firstWith num (o ∷ os) n = cond (eqb n (num o)) (Op o) (firstWith num os n)
 
 abbrev pub opcodeIn : (Opcode → ℕ) → ℕ → Found
-opcodeIn num n = firstIn num all n
+opcodeIn num n = firstWith num all n

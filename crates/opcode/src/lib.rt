@@ -76,7 +76,7 @@ pub enum Found {
     Nothing,
 }
 
-pub fn number(op: Opcode) -> u8
+pub fn opcode_number(op: Opcode) -> u8
     ensures { λ r. ⌜ r ≡ opcodeNumber op ⌝ }
 {
     match op {
@@ -195,7 +195,7 @@ fn opcode_at(n: u8) -> Opcode
 pub fn same(a: Opcode, b: Opcode) -> bool
     ensures { λ r. ⌜ r ≡ eqb (opcodeNumber a) (opcodeNumber b) ⌝ }
 {
-    number(a) == number(b)
+    opcode_number(a) == opcode_number(b)
 }
 
 // One range test when compiled: the variants stand in the order of their numbers.

@@ -1,4 +1,4 @@
-// Pending checks, in three lent lists of numbers and a count: values, the widths that were noted of them, and pcs.
+// Pending checks, in three lent lists of numbers and a count: values, the bounds that were noted of them, and pcs.
 use refusal::Refusal;
 ghost use mathlib.Core.Path.{_≡_};
 ghost use mathlib.Core.Bool.{_&&_};
@@ -25,15 +25,15 @@ pub enum Appended {
 }
 
 pub enum Entry {
-    Check { value: u64, width: u8, pc: u64 },
+    Check { value: u64, bound: u8, pc: u64 },
     Nothing,
 }
 
 // Whether the lists are of one length, and the count within it.
-pub fn lists_fit(values: usize, widths: usize, pcs: usize, count: usize) -> bool
-    ensures { λ r. ⌜ r ≡ (eqb widths values && eqb pcs values && leb count values) ⌝ }
+pub fn lists_fit(values: usize, bounds: usize, pcs: usize, count: usize) -> bool
+    ensures { λ r. ⌜ r ≡ (eqb bounds values && eqb pcs values && leb count values) ⌝ }
 {
-    (widths == values) & (pcs == values) & (count <= values)
+    (bounds == values) & (pcs == values) & (count <= values)
 }
 
 // The room of lists of a length, with so many in use.
@@ -67,7 +67,7 @@ fn put_number(list: &mut [u64], at: usize, v: u64)
     }
 }
 
-fn put_width(list: &mut [u8], at: usize, v: u8)
+fn put_bound(list: &mut [u8], at: usize, v: u8)
     ensures { λ _. ⌜ now (list .exit) ≡ set (now (list .entry)) at v ⌝ }
 {
     if at < list.len() {
@@ -78,20 +78,20 @@ fn put_width(list: &mut [u8], at: usize, v: u8)
 // The count after one more check, if there is room.
 fn note(
     values: &mut [u64],
-    widths: &mut [u8],
+    bounds: &mut [u8],
     pcs: &mut [u64],
     count: usize,
     value: u64,
-    width: u8,
+    bound: u8,
     pc: u64,
 ) -> usize
-    ensures { λ r. ⌜ lists r (now (values .exit)) (now (widths .exit)) (now (pcs .exit)) ≡ appended value width pc (lists count (now (values .entry)) (now (widths .entry)) (now (pcs .entry))) ⌝ }
+    ensures { λ r. ⌜ lists r (now (values .exit)) (now (bounds .exit)) (now (pcs .exit)) ≡ appended value bound pc (lists count (now (values .entry)) (now (bounds .entry)) (now (pcs .entry))) ⌝ }
 {
     if values.len() <= count {
         return count;
     }
     put_number(values, count, value);
-    put_width(widths, count, width);
+    put_bound(bounds, count, bound);
     put_number(pcs, count, pc);
     count + 1
 }
@@ -99,58 +99,58 @@ fn note(
 // Lists the checks of a step at a pc, and answers the count then.
 pub fn list(
     values: &mut [u64],
-    widths: &mut [u8],
+    bounds: &mut [u8],
     pcs: &mut [u64],
     count: usize,
     checks: Checks,
     pc: u64,
 ) -> usize
-    ensures { λ r. ⌜ lists r (now (values .exit)) (now (widths .exit)) (now (pcs .exit)) ≡ listing (checksOf checks) pc (lists count (now (values .entry)) (now (widths .entry)) (now (pcs .entry))) ⌝ }
+    ensures { λ r. ⌜ lists r (now (values .exit)) (now (bounds .exit)) (now (pcs .exit)) ≡ listing (checksOf checks) pc (lists count (now (values .entry)) (now (bounds .entry)) (now (pcs .entry))) ⌝ }
 {
     match checks {
         Checks::Nothing => count,
-        Checks::One { bound, value } => note(values, widths, pcs, count, value, bound, pc),
+        Checks::One { bound, value } => note(values, bounds, pcs, count, value, bound, pc),
     }
 }
 
 // Lists one check. Where no list is lent, none is listed and nothing refused.
 pub fn append(
     values: &mut [u64],
-    widths: &mut [u8],
+    bounds: &mut [u8],
     pcs: &mut [u64],
     count: usize,
     value: u64,
-    width: u8,
+    bound: u8,
     pc: u64,
 ) -> Appended
-    ensures { λ r. ⌜ (r ≡ appendAnswer value width pc (lists count (now (values .entry)) (now (widths .entry)) (now (pcs .entry)))) × (lists ((appendLists value width pc (lists count (now (values .entry)) (now (widths .entry)) (now (pcs .entry)))) .count) (now (values .exit)) (now (widths .exit)) (now (pcs .exit)) ≡ appendLists value width pc (lists count (now (values .entry)) (now (widths .entry)) (now (pcs .entry)))) ⌝ }
+    ensures { λ r. ⌜ (r ≡ appendAnswer value bound pc (lists count (now (values .entry)) (now (bounds .entry)) (now (pcs .entry)))) × (lists ((appendLists value bound pc (lists count (now (values .entry)) (now (bounds .entry)) (now (pcs .entry)))) .count) (now (values .exit)) (now (bounds .exit)) (now (pcs .exit)) ≡ appendLists value bound pc (lists count (now (values .entry)) (now (bounds .entry)) (now (pcs .entry)))) ⌝ }
 {
-    if !lists_fit(values.len(), widths.len(), pcs.len(), count) {
+    if !lists_fit(values.len(), bounds.len(), pcs.len(), count) {
         return Appended::Refused(Refusal::Malformed);
     }
     if lacks(room_at(values.len(), count), 1) {
         return Appended::Refused(Refusal::ListFull { pc });
     }
-    Appended::At(note(values, widths, pcs, count, value, width, pc))
+    Appended::At(note(values, bounds, pcs, count, value, bound, pc))
 }
 
 // The count of the emptied list.
-pub fn empty(values: &mut [u64], widths: &mut [u8], pcs: &mut [u64], count: usize) -> usize
-    ensures { λ r. ⌜ lists r (now (values .exit)) (now (widths .exit)) (now (pcs .exit)) ≡ emptied (lists count (now (values .entry)) (now (widths .entry)) (now (pcs .entry))) ⌝ }
+pub fn empty(values: &mut [u64], bounds: &mut [u8], pcs: &mut [u64], count: usize) -> usize
+    ensures { λ r. ⌜ lists r (now (values .exit)) (now (bounds .exit)) (now (pcs .exit)) ≡ emptied (lists count (now (values .entry)) (now (bounds .entry)) (now (pcs .entry))) ⌝ }
 {
     0
 }
 
 pub fn read<'a>(
     values: &'a [u64],
-    widths: &'a [u8],
+    bounds: &'a [u8],
     pcs: &'a [u64],
     count: usize,
     at: usize,
 ) -> Entry
-    ensures { λ r. ⌜ r ≡ entryAt at (lists count (now (values .entry)) (now (widths .entry)) (now (pcs .entry))) ⌝ }
+    ensures { λ r. ⌜ r ≡ entryAt at (lists count (now (values .entry)) (now (bounds .entry)) (now (pcs .entry))) ⌝ }
 {
-    if !lists_fit(values.len(), widths.len(), pcs.len(), count) {
+    if !lists_fit(values.len(), bounds.len(), pcs.len(), count) {
         return Entry::Nothing;
     }
     if count <= at {
@@ -158,7 +158,7 @@ pub fn read<'a>(
     }
     Entry::Check {
         value: values[at],
-        width: widths[at],
+        bound: bounds[at],
         pc: pcs[at],
     }
 }

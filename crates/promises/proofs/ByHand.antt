@@ -18,7 +18,7 @@ use Rattle.checks.specs.Records.{listed, answerTo, withOne}
 use Rattle.checked.specs.Machine.{steppedOver, ranOver}
 use Rattle.checks.specs.declared.Pending.{Pending}
 use Rattle.checks.proofs.Listed.{listed-injective}
-use Rattle.lent.specs.Lent.{Stepped, lentLeft, stepLent}
+use Rattle.lent.specs.Lent.{LentStep, lentStep, stepLent}
 use Rattle.agreement.specs.Contracts.{Telling}
 use Rattle.promises.specs.ByHand.{ByHand}
 use Rattle.promises.proofs.Laws.{one, _&_}
@@ -98,9 +98,9 @@ lent·step-in-place = (
 
 abbrev stepsLent : Telling lent.exported.zkir_step.ended
 stepsLent κs a r e =
-    lentLeft r (now (e .0)) (now (e .1 .0)) (listed (r .count) (now (e .1 .1 .0)))
+    lentStep r (now (e .0)) (now (e .1 .0)) (listed (r .count) (now (e .1 .1 .0)))
     ≡ stepLent (a .1 .1 .1 .1 .0) (now (a .0)) (now (a .1 .0)) (listed (a .1 .1 .1 .0) (now (a .1 .1 .0)))
 
 pub lent·exported·zkir-step : ByHand lent.exported.zkir_step.ended (λ M 𝓤. lent.exported.zkir_step.clauses {M = M} 𝓤) stepsLent
 lent·exported·zkir-step =
-    (λ M 𝓤 H A m run κs a g r e. refl, λ κs a x y. over (λ (s : Stepped) l. s .answer & s .state & s .memory & l & tt & tt & tt) (λ s. s .lists) refl refl)
+    (λ M 𝓤 H A m run κs a g r e. refl, λ κs a x y. over (λ (s : LentStep) l. s .answer & s .state & s .memory & l & tt & tt & tt) (λ s. s .lists) refl refl)

@@ -18,7 +18,7 @@ use Rattle.pending.specs.Pending.{lacks}
 use Rattle.effect.specs.Operations.{divided, result}
 use Rattle.effect.specs.Effects.{seen, dividing, effect}
 use Rattle.execute.specs.World.{done}
-use Rattle.execute.specs.Modes.{limbsIn, settle}
+use Rattle.execute.specs.Modes.{limbsIn, settleSources}
 use Rattle.execute.specs.Execute.{finish, execute, admits}
 use Rattle.given.specs.Given.{executeOne}
 use Rattle.promises.specs.Corners.{Corner, number, integer, All, paper}
@@ -50,5 +50,5 @@ holds (number a b ∷ cs) t = let p = and-yes (eqb a b) (right cs) t in (eqb→e
 holds (integer a b ∷ cs) t = let p = and-yes (sameZ a b) (right cs) t in (sameZ→eq a b (p .0), holds cs (p .1))
 
 pub corners : All paper
-unfolding right lacks signedOf fitsIn immFits partsFit wordOf encodedIn normalizeAndWrite executeOne admits wellFormed zeroFits isZero allBelow registerFits limbsFit allWhole execute finish limbsIn settle done effect seen dividing divided result divOf remOf shl40 signed40 sra40 place kept waits heldOf valueOf
+unfolding right lacks signedOf fitsIn immFits partsFit wordOf encodedIn normalizeAndWrite executeOne admits wellFormed zeroFits isZero allBelow registerFits limbsFit allWhole execute finish limbsIn settleSources done effect seen dividing divided result divOf remOf shl40 signed40 sra40 place kept waits heldOf valueOf
 corners = holds paper tt

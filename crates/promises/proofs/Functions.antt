@@ -33,7 +33,7 @@ use Rattle.step.specs.Step.{Left}
 use Rattle.run.specs.Run.{Answer}
 use Rattle.step.specs.Leg.{Leg}
 use Rattle.host.specs.Call.{Called}
-use Rattle.exports.specs.Machine.{Given}
+use Rattle.exports.specs.Machine.{GivenCall}
 use Rattle.promises.specs.Determined.{Determined}
 use Rattle.effect.specs.declared.registers.Deed.{Deed}
 use Rattle.effect.specs.declared.immediate.Turn.{Turn}
@@ -214,14 +214,14 @@ pub bound·needs-check : Determined bound.needs_check.ended bound.needs_check.Re
 bound·needs-check κs a x y = one (λ r. r & x .1)
 
 -- ---- refusal
-pub refusal·number : Determined refusal.number.ended refusal.number.Reads.Learnt
-refusal·number κs a x y = one (λ r. r & x .1)
+pub refusal·number-of : Determined refusal.number_of.ended refusal.number_of.Reads.Learnt
+refusal·number-of κs a x y = one (λ r. r & x .1)
 
-pub refusal·particular : Determined refusal.particular.ended refusal.particular.Reads.Learnt
-refusal·particular κs a x y = one (λ r. r & x .1)
+pub refusal·particular-of : Determined refusal.particular_of.ended refusal.particular_of.Reads.Learnt
+refusal·particular-of κs a x y = one (λ r. r & x .1)
 
-pub refusal·code : Determined refusal.code.ended refusal.code.Reads.Learnt
-refusal·code κs a x y = one (λ r. r & x .1)
+pub refusal·code-of : Determined refusal.code_of.ended refusal.code_of.Reads.Learnt
+refusal·code-of κs a x y = one (λ r. r & x .1)
 
 pub refusal·particular-at : Determined refusal.particular_at.ended refusal.particular_at.Reads.Learnt
 refusal·particular-at κs a x y = one (λ r. r & x .1)
@@ -274,8 +274,8 @@ pub pending·read : Determined pending.read.ended pending.read.Reads.Learnt
 pending·read κs a x y = one (λ r. r & x .1)
 
 -- ---- opcode
-pub opcode·number : Determined opcode.number.ended opcode.number.Reads.Learnt
-opcode·number κs a x y = one (λ r. r & x .1)
+pub opcode·opcode-number : Determined opcode.opcode_number.ended opcode.opcode_number.Reads.Learnt
+opcode·opcode-number κs a x y = one (λ r. r & x .1)
 
 pub opcode·same : Determined opcode.same.ended opcode.same.Reads.Learnt
 opcode·same κs a x y = one (λ r. r & x .1)
@@ -297,8 +297,8 @@ pub forms·form-of : Determined forms.form_of.ended forms.form_of.Reads.Learnt
 forms·form-of κs a x y = one (λ r. r & x .1)
 
 -- ---- instruction
-pub instruction·operands·joined : Determined instruction.operands.joined.ended instruction.operands.joined.Reads.Learnt
-instruction·operands·joined κs a x y = one (λ r. r & x .1)
+pub instruction·operands·instruction-of : Determined instruction.operands.instruction_of.ended instruction.operands.instruction_of.Reads.Learnt
+instruction·operands·instruction-of κs a x y = one (λ r. r & x .1)
 
 pub instruction·operands·parts-of : Determined instruction.operands.parts_of.ended instruction.operands.parts_of.Reads.Learnt
 instruction·operands·parts-of κs a x y = one (λ r. r & x .1)
@@ -404,8 +404,8 @@ effect·immediate·shift κs a x y = λ p q. ap (λ (r : Turn). r & x .1) (one-s
 pub effect·registers·decide : Determined effect.registers.decide.ended effect.registers.decide.Reads.Learnt
 effect·registers·decide κs a x y = λ p q. ap (λ (r : Deed). r & x .1) (one-deed (a .0) (a .1 .0) _ _ p q)
 
-pub effect·store·size-of : Determined effect.store.size_of.ended effect.store.size_of.Reads.Learnt
-effect·store·size-of κs a x y = one (λ r. r & x .1)
+pub effect·store·store-size : Determined effect.store.store_size.ended effect.store.store_size.Reads.Learnt
+effect·store·store-size κs a x y = one (λ r. r & x .1)
 
 -- ---- deferred
 pub deferred·limbs-of-registers : Determined deferred.limbs_of_registers.ended deferred.limbs_of_registers.Reads.Learnt
@@ -457,8 +457,8 @@ run·legs·stop-of κs a x y = one (λ r. r & x .1)
 pub run·legs·begin : Determined run.legs.begin.ended run.legs.begin.Reads.Learnt
 run·legs·begin κs a x y = one (λ r. r & x .1)
 
-pub run·legs·after : Determined run.legs.after.ended run.legs.after.Reads.Learnt
-run·legs·after κs a x y = one (λ r. r & x .1)
+pub run·legs·next : Determined run.legs.next.ended run.legs.next.Reads.Learnt
+run·legs·next κs a x y = one (λ r. r & x .1)
 
 -- ---- host
 pub host·mode-of : Determined host.mode_of.ended host.mode_of.Reads.Learnt
@@ -659,7 +659,7 @@ pub exports·lists·oracle-read : Determined exports.lists.oracle_read.ended exp
 exports·lists·oracle-read κs a x y = one (λ m. tt & m & x .1 .1)
 
 pub exports·machine·oracle-execute : Determined exports.machine.oracle_execute.ended exports.machine.oracle_execute.Reads.Learnt
-exports·machine·oracle-execute κs a x y = one (λ (g : Given). tt & g .state & g .memory & g .answer & g .check & x .1 .1 .1 .1 .1)
+exports·machine·oracle-execute κs a x y = one (λ (g : GivenCall). tt & g .state & g .memory & g .answer & g .check & x .1 .1 .1 .1 .1)
 
 pub exports·machine·oracle-step : Determined exports.machine.oracle_step.ended exports.machine.oracle_step.Reads.Learnt
 exports·machine·oracle-step κs a x y = one (λ (l : MachineLeft). l .lists .count & l .state & l .memory & l .answer & l .lists .values & l .lists .bounds & l .lists .pcs & x .1 .1 .1 .1 .1 .1 .1)

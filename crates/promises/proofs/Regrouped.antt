@@ -10,7 +10,7 @@ use Rattle.pending.specs.declared.Checks.{Checks}
 use Rattle.step.specs.declared.OneStep.{OneStep}
 use Rattle.run.specs.declared.Ran.{Ran}
 use Rattle.host.specs.Call.{stateOf}
-use Rattle.lent.specs.declared.Outcome.{Outcome}
+use Rattle.lent.specs.declared.InPlace.{InPlace}
 use Rattle.exports.specs.Limbs as Limbs
 use Rattle.exports.specs.Machine as Machine
 
@@ -29,7 +29,7 @@ ranOf a = record { stop = a .stop; steps = a .steps; count = a .lists .count; st
 abbrev pub goneOf : Leg → Checks → Gone
 goneOf l cs = record { went = l .went; steps = l .steps; checks = cs; pc = l .pc; state = stateOf (l .world) }
 
-abbrev pub outcomeOf : Left → Outcome
+abbrev pub outcomeOf : Left → InPlace
 outcomeOf l = record { went = l .went; count = l .lists .count }
 
 -- two that go by one name

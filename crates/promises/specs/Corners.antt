@@ -36,24 +36,24 @@ All (number a b ∷ cs) = (a ≡ b) × All cs
 All (integer a b ∷ cs) = (a ≡ b) × All cs
 
 -- the word of an instruction, or 2^32, which is none
-abbrev pub wordOf : Encoded → ℕ
-wordOf (E.Word w) = w
-wordOf (E.Refused r) = 2 ^ 32
+abbrev pub wordIn : Encoded → ℕ
+wordIn (E.Word w) = w
+wordIn (E.Refused r) = 2 ^ 32
 
 abbrev pub word : Instruction → ℕ
-word i = wordOf (encodeIn opcodeNumber i)
+word i = wordIn (encodeIn opcodeNumber i)
 
 -- limbs 2^30-1 twice, normalised
 abbrev pub normalised : NormalizationResult
 normalised = normalizeAndWrite (freshAt 0) 1 (2 ^ 30 - 1) (2 ^ 30 - 1) .result
 
 -- R1 holds a and R2 b; R3 holds 7, which no corner gives
-abbrev pub given : ℕ → ℕ → World
-given a b = world 0 false (registers (0 ∷ a ∷ b ∷ 7 ∷ replicate 12 0) (replicate 16 false) (replicate 16 0)) []
+abbrev pub holding : ℕ → ℕ → World
+holding a b = world 0 false (registers (0 ∷ a ∷ b ∷ 7 ∷ replicate 12 0) (replicate 16 false) (replicate 16 0)) []
 
 -- what R3 holds after an instruction on them
 abbrev pub stores : (ℕ → ℕ → ℕ → Instruction) → ℕ → ℕ → ℕ
-stores op a b = valueOf (holds (executeOne Plain documentNotes (op 3 1 2) (given a b) .world .registers) 3)
+stores op a b = valueOf (holds (executeOne Plain documentNotes (op 3 1 2) (holding a b) .world .registers) 3)
 
 -- negsuc n is -1 - n
 abbrev pub paper : List Corner

@@ -22,7 +22,7 @@ pub enum Stop {
     Refused(Refusal),
 }
 
-pub fn number(r: Refusal) -> u64
+pub fn number_of(r: Refusal) -> u64
     ensures { λ n. ⌜ n ≡ numberOf r ⌝ }
 {
     match r {
@@ -38,7 +38,7 @@ pub fn number(r: Refusal) -> u64
     }
 }
 
-pub fn particular(r: Refusal) -> u64
+pub fn particular_of(r: Refusal) -> u64
     ensures { λ n. ⌜ n ≡ particularOf r ⌝ }
 {
     match r {
@@ -55,14 +55,14 @@ pub fn particular(r: Refusal) -> u64
 }
 
 // The code by which a host learns of a stop: 0 fuel, 1 to 9 refusals, 64 Ebreak, 65 Ecall.
-pub fn code(s: Stop) -> u64
+pub fn code_of(s: Stop) -> u64
     ensures { λ n. ⌜ n ≡ codeOf s ⌝ }
 {
     match s {
         Stop::Fuel => 0,
         Stop::Ebreak => 64,
         Stop::Ecall => 65,
-        Stop::Refused(r) => number(r),
+        Stop::Refused(r) => number_of(r),
     }
 }
 
@@ -74,6 +74,6 @@ pub fn particular_at(s: Stop) -> u64
         Stop::Fuel => 0,
         Stop::Ebreak => 0,
         Stop::Ecall => 0,
-        Stop::Refused(r) => particular(r),
+        Stop::Refused(r) => particular_of(r),
     }
 }

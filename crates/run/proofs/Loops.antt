@@ -29,7 +29,7 @@ use Rattle.step.specs.Step.{left, stepIn, stepOf}
 use Rattle.step.specs.Leg.{Leg, leg, later, goesOn, counted, unlisted, legIn, gone}
 use Rattle.step.specs.declared.leg.Gone.{Gone}
 use Rattle.step.proofs.Legs.{leg-within, leg-moves}
-use Rattle.run.specs.Run.{Answer, answer, after, stopOf, following, loop, run}
+use Rattle.run.specs.Run.{Answer, answer, preceded, stopOf, following, loop, run}
 use Rattle.run.specs.Legs.{begun, next, comesTo}
 use Rattle.run.specs.declared.legs.Going.{Going}
 
@@ -37,10 +37,10 @@ use Rattle.run.specs.declared.legs.Going.{Going}
 abbrev onward : ℕ → Mode → Rules → Lists → Leg → Answer
 onward n k R l a =
     let t = listing (a .checks) (a .pc) l in
-    cond (goesOn (a .went)) (after (a .steps) (loop (n - a .steps) k R (a .world) t)) (answer (stopOf (a .went)) (a .steps) (a .world) t)
+    cond (goesOn (a .went)) (preceded (a .steps) (loop (n - a .steps) k R (a .world) t)) (answer (stopOf (a .went)) (a .steps) (a .world) t)
 
 -- a step before a leg
-onward-later : (n : ℕ) (k : Mode) (R : Rules) (l : Lists) (a : Leg) → after 1 (onward n k R l a) ≡ onward (suc n) k R l (later 1 a)
+onward-later : (n : ℕ) (k : Mode) (R : Rules) (l : Lists) (a : Leg) → preceded 1 (onward n k R l a) ≡ onward (suc n) k R l (later 1 a)
 onward-later n k R l a = told (goesOn (a .went))
   where
     t : Lists
@@ -49,8 +49,8 @@ onward-later n k R l a = told (goesOn (a .went))
     rest : Answer
     rest = loop (n - a .steps) k R (a .world) t
 
-    told : (b : Bool) → after 1 (cond b (after (a .steps) (loop (n - a .steps) k R (a .world) t)) (answer (stopOf (a .went)) (a .steps) (a .world) t))
-        ≡ cond b (after (1 + a .steps) (loop (suc n - (1 + a .steps)) k R (a .world) t)) (answer (stopOf (a .went)) (1 + a .steps) (a .world) t)
+    told : (b : Bool) → preceded 1 (cond b (preceded (a .steps) (loop (n - a .steps) k R (a .world) t)) (answer (stopOf (a .went)) (a .steps) (a .world) t))
+        ≡ cond b (preceded (1 + a .steps) (loop (suc n - (1 + a .steps)) k R (a .world) t)) (answer (stopOf (a .went)) (1 + a .steps) (a .world) t)
     told true = let z : suc n - (1 + a .steps) ≡ n - a .steps = omega arith in rw z (ap (λ (i : ℕ). answer (rest .stop) i (rest .world) (rest .lists)) (omega arith))
     told false = refl
 
@@ -59,9 +59,9 @@ module _ (k : Mode) (R : Rules) (l : Lists) (pc : ℕ) where
       → following (left g v (listing cs pc l)) (loop n k R)
       ≡ onward (suc n) k R l (cond (goesOn g && unlisted cs room) (later 1 (legIn n k room R v)) (leg g (counted g) v cs pc))
   unfolding following goesOn unlisted counted stopOf listing
-  first-step n W.On [] room v e h = ap (λ (x : Answer). after 1 x) h ∙ onward-later n k R l (legIn n k room R v)
+  first-step n W.On [] room v e h = ap (λ (x : Answer). preceded 1 x) h ∙ onward-later n k R l (legIn n k room R v)
   first-step n W.On (c ∷ cs) Unlent v e h =
-      rw (unlent-stays (c ∷ cs) pc l e) (ap (λ (x : Answer). after 1 x) h ∙ onward-later n k R l (legIn n k Unlent R v))
+      rw (unlent-stays (c ∷ cs) pc l e) (ap (λ (x : Answer). preceded 1 x) h ∙ onward-later n k R l (legIn n k Unlent R v))
   first-step n W.On (c ∷ cs) (Left j) v e h = let z : suc n - 1 ≡ n = omega arith in rw z
   first-step n W.Ebreak cs room v e h = refl
   first-step n W.Ecall cs room v e h = refl
@@ -88,8 +88,8 @@ unlent-leg (suc n) k R w l u =
     told : ((v : World) → answered (legIn n k Unlent R v) l ≡ loop n k R v l) → (g : Went) (cs : List Check) (v : World)
         → answered (cond (goesOn g && unlisted cs Unlent) (later 1 (legIn n k Unlent R v)) (leg g (counted g) v cs (w .pc))) l
         ≡ following (left g v l) (loop n k R)
-    told rest W.On [] v = ap (λ (x : Answer). after 1 x) (rest v)
-    told rest W.On (c ∷ cs) v = ap (λ (x : Answer). after 1 x) (rest v)
+    told rest W.On [] v = ap (λ (x : Answer). preceded 1 x) (rest v)
+    told rest W.On (c ∷ cs) v = ap (λ (x : Answer). preceded 1 x) (rest v)
     told rest W.Ebreak cs v = refl
     told rest W.Ecall cs v = refl
     told rest (W.Refused r) cs v = refl
@@ -104,7 +104,7 @@ begins c s fuel m l taken e = rw (← e) (told taken (s .halted))
     rest = loop fuel (c .mode) (rulesOf c) (worldOf s m) l
 
     told : (t h : Bool)
-        → cond (t && not h) (after 0 rest) (answer (cond t S.Ebreak (S.Refused (refusalOf 9 0))) 0 (worldOf s m) l)
+        → cond (t && not h) (preceded 0 rest) (answer (cond t S.Ebreak (S.Refused (refusalOf 9 0))) 0 (worldOf s m) l)
         ≡ cond t (cond h (answer S.Ebreak 0 (worldOf s m) l) rest) (answer (S.Refused (refusalOf 9 0)) 0 (worldOf s m) l)
     told true true = refl
     told true false = ap (λ (i : ℕ). answer (rest .stop) i (rest .world) (rest .lists)) (omega arith)
@@ -113,8 +113,8 @@ begins c s fuel m l taken e = rw (← e) (told taken (s .halted))
 
 -- a leg after `before` steps, and what is left of the run
 joined : (k : Mode) (R : Rules) (g : Went) (before steps left : ℕ) (w : World) (l : Lists)
-    → cond (goesOn g && ltb 0 left) (after (before + steps) (loop left k R w l)) (answer (stopOf g) (before + steps) w l)
-    ≡ after before (cond (goesOn g) (after steps (loop left k R w l)) (answer (stopOf g) steps w l))
+    → cond (goesOn g && ltb 0 left) (preceded (before + steps) (loop left k R w l)) (answer (stopOf g) (before + steps) w l)
+    ≡ preceded before (cond (goesOn g) (preceded steps (loop left k R w l)) (answer (stopOf g) steps w l))
 unfolding goesOn stopOf loop
 joined k R W.On before steps zero w l = ap (λ (i : ℕ). answer S.Fuel i w l) (omega arith)
 joined k R W.On before steps (suc left) w l =

@@ -12,7 +12,7 @@ use Rattle.execute.specs.declared.Choices.{Choices}
 use Rattle.pending.specs.Pending.{Lists}
 use Rattle.step.specs.Leg.{goesOn}
 use Rattle.step.specs.declared.leg.Gone.{Gone}
-use Rattle.run.specs.Run.{Answer, answer, after, stopOf, loop}
+use Rattle.run.specs.Run.{Answer, answer, preceded, stopOf, loop}
 use Rattle.run.specs.declared.legs.Going.{Going}
 
 -- where it begins: refused (9), halted, or about to go
@@ -43,5 +43,5 @@ next r g =
 abbrev pub comesTo : Going → List ℕ → Lists → Answer
 comesTo r m l =
     cond (r .on)
-    (after (r .steps) (loop (r .left) (r .choices .mode) (rulesOf (r .choices)) (worldOf (r .state) m) l))
+    (preceded (r .steps) (loop (r .left) (r .choices .mode) (rulesOf (r .choices)) (worldOf (r .state) m) l))
     (answer (r .stop) (r .steps) (worldOf (r .state) m) l)

@@ -26,8 +26,8 @@ abbrev pub answer : Stop → ℕ → World → Lists → Answer
 answer p n w l = record { stop = p; steps = n; world = w; lists = l }
 
 -- an answer with n steps before it
-abbrev pub after : ℕ → Answer → Answer
-after n a = answer (a .stop) (n + a .steps) (a .world) (a .lists)
+abbrev pub preceded : ℕ → Answer → Answer
+preceded n a = answer (a .stop) (n + a .steps) (a .world) (a .lists)
 
 -- the stop of a step that doesn't go on
 unfoldable pub stopOf : Went → Stop
@@ -37,7 +37,7 @@ stopOf W.Ecall = S.Ecall
 stopOf (W.Refused r) = S.Refused r
 
 unfoldable pub following : Left → (World → Lists → Answer) → Answer
-following s rest = cond (goesOn (s .went)) (after 1 (rest (s .world) (s .lists))) (answer (stopOf (s .went)) (counted (s .went)) (s .world) (s .lists))
+following s rest = cond (goesOn (s .went)) (preceded 1 (rest (s .world) (s .lists))) (answer (stopOf (s .went)) (counted (s .went)) (s .world) (s .lists))
 
 -- at most n steps
 unfoldable pub loop : ℕ → Mode → Rules → World → Lists → Answer

@@ -64,7 +64,7 @@ fn less(left: u64, steps: u64) -> u64
 }
 
 // After a leg.
-pub fn after(r: Going, g: Gone) -> Going
+pub fn next(r: Going, g: Gone) -> Going
     ensures { λ t. ⌜ t ≡ next r g ⌝ }
 {
     let choices = r.choices;

@@ -30,12 +30,12 @@ fn go(
     begun: Going,
     m: &mut [u8],
     values: &mut [u64],
-    widths: &mut [u8],
+    bounds: &mut [u8],
     pcs: &mut [u64],
     count: usize,
 ) -> Ran
     requires { ⌜ begun .steps + begun .left < 2 ^ 64 ⌝ }
-    ensures { λ r. ⌜ ran r (now (m .exit)) (now (values .exit)) (now (widths .exit)) (now (pcs .exit)) ≡ comesTo begun (now (m .entry)) (lists count (now (values .entry)) (now (widths .entry)) (now (pcs .entry))) ⌝ }
+    ensures { λ r. ⌜ ran r (now (m .exit)) (now (values .exit)) (now (bounds .exit)) (now (pcs .exit)) ≡ comesTo begun (now (m .entry)) (lists count (now (values .entry)) (now (bounds .entry)) (now (pcs .entry))) ⌝ }
 {
     let mut r = begun;
     let mut listed = count;
@@ -44,8 +44,8 @@ fn go(
         let s = r.state;
         let g = leg::advance(choices, room_at(values.len(), listed), s, r.left, m);
         let checks = g.checks;
-        listed = pending::list(values, widths, pcs, listed, checks, g.pc);
-        r = legs::after(r, g);
+        listed = pending::list(values, bounds, pcs, listed, checks, g.pc);
+        r = legs::next(r, g);
     }
     let stop = r.stop;
     let state = r.state;
@@ -63,19 +63,19 @@ pub fn run_plain(
     fuel: u64,
     m: &mut [u8],
     values: &mut [u64],
-    widths: &mut [u8],
+    bounds: &mut [u8],
     pcs: &mut [u64],
     count: usize,
 ) -> Ran
-    ensures { λ r. ⌜ ran r (now (m .exit)) (now (values .exit)) (now (widths .exit)) (now (pcs .exit)) ≡ run Plain documentRules fuel (worldOf s (now (m .entry))) (lists count (now (values .entry)) (now (widths .entry)) (now (pcs .entry))) ⌝ }
+    ensures { λ r. ⌜ ran r (now (m .exit)) (now (values .exit)) (now (bounds .exit)) (now (pcs .exit)) ≡ run Plain documentRules fuel (worldOf s (now (m .entry))) (lists count (now (values .entry)) (now (bounds .entry)) (now (pcs .entry))) ⌝ }
 {
-    let taken = takes(Mode::Plain, s, values.len(), widths.len(), pcs.len(), count);
+    let taken = takes(Mode::Plain, s, values.len(), bounds.len(), pcs.len(), count);
     let choices = Choices { mode: Mode::Plain };
     go(
         legs::begin(choices, s, fuel, taken),
         m,
         values,
-        widths,
+        bounds,
         pcs,
         count,
     )
@@ -87,17 +87,17 @@ pub fn run_deferred(
     fuel: u64,
     m: &mut [u8],
     values: &mut [u64],
-    widths: &mut [u8],
+    bounds: &mut [u8],
     pcs: &mut [u64],
     count: usize,
 ) -> Ran
-    ensures { λ r. ⌜ ran r (now (m .exit)) (now (values .exit)) (now (widths .exit)) (now (pcs .exit)) ≡ run Deferred documentRules fuel (worldOf s (now (m .entry))) (lists count (now (values .entry)) (now (widths .entry)) (now (pcs .entry))) ⌝ }
+    ensures { λ r. ⌜ ran r (now (m .exit)) (now (values .exit)) (now (bounds .exit)) (now (pcs .exit)) ≡ run Deferred documentRules fuel (worldOf s (now (m .entry))) (lists count (now (values .entry)) (now (bounds .entry)) (now (pcs .entry))) ⌝ }
 {
     let taken = takes(
         Mode::Deferred,
         s,
         values.len(),
-        widths.len(),
+        bounds.len(),
         pcs.len(),
         count,
     );
@@ -108,7 +108,7 @@ pub fn run_deferred(
         legs::begin(choices, s, fuel, taken),
         m,
         values,
-        widths,
+        bounds,
         pcs,
         count,
     )

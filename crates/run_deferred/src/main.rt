@@ -9,7 +9,7 @@ fn main() {
         return;
     }
     let mut values = [0u64; 0];
-    let mut widths = [0u8; 0];
+    let mut bounds = [0u8; 0];
     let mut pcs = [0u64; 0];
     let fresh = state::fresh(0);
     let r = run::run_deferred(
@@ -17,7 +17,7 @@ fn main() {
         console::FUEL,
         &mut m,
         &mut values,
-        &mut widths,
+        &mut bounds,
         &mut pcs,
         0,
     );

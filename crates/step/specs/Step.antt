@@ -45,5 +45,5 @@ unfoldable pub step : Mode → Rules → World → Lists → Left
 step k R w l = cond (admits k (w .registers) && listsFit l) (stepOf k R w l) (left (W.Refused (refusalOf 9 0)) w l)
 
 -- what the code gives back, with what was lent to it
-abbrev pub stepped : OneStep → List ℕ → List ℕ → List ℕ → List ℕ → Left
-stepped r m vs bs ps = left (r .went) (worldOf (r .state) m) (lists (r .count) vs bs ps)
+abbrev pub oneStep : OneStep → List ℕ → List ℕ → List ℕ → List ℕ → Left
+oneStep r m vs bs ps = left (r .went) (worldOf (r .state) m) (lists (r .count) vs bs ps)

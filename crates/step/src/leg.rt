@@ -16,7 +16,7 @@ ghost use Rattle.state.specs.Registers.{registers};
 ghost use Rattle.pending.specs.Pending.{checksOf};
 ghost use Rattle.execute.specs.World.{worldOf, advanced};
 ghost use Rattle.execute.specs.Rules.{rulesOf};
-ghost use Rattle.execute.specs.Starts.{begun};
+ghost use Rattle.execute.specs.Starts.{started};
 ghost use Rattle.step.specs.Step.{stepIn};
 ghost use Rattle.step.specs.Leg.{goesOn, counted, unlisted, legIn, gone};
 
@@ -81,7 +81,7 @@ fn step_in(
     bounds: &mut [u8; 16],
     m: &mut [u8],
 ) -> Advance
-    ensures { λ r. ⌜ advanced r (registers (now (regs .exit)) (now (accumulated .exit)) (now (bounds .exit))) (now (m .exit)) ≡ stepIn (start .choices .mode) (start .room) (rulesOf (start .choices)) (begun start (registers (now (regs .entry)) (now (accumulated .entry)) (now (bounds .entry))) (now (m .entry))) ⌝ }
+    ensures { λ r. ⌜ advanced r (registers (now (regs .exit)) (now (accumulated .exit)) (now (bounds .exit))) (now (m .exit)) ≡ stepIn (start .choices .mode) (start .room) (rulesOf (start .choices)) (started start (registers (now (regs .entry)) (now (accumulated .entry)) (now (bounds .entry))) (now (m .entry))) ⌝ }
 {
     match memory::fetch(m, start.pc) {
         Fetched::Word(word) => word::obey(start, word, regs, accumulated, bounds, m),

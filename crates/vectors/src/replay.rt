@@ -126,11 +126,11 @@ fn entry_differs(
     places: Places,
     at: u64,
     value: u64,
-    width: u8,
+    bound: u8,
     pc: u64,
 ) -> bool {
     value != entry(line, call, places, at, 0)
-        || wide(width) != entry(line, call, places, at, 1)
+        || wide(bound) != entry(line, call, places, at, 1)
         || pc != entry(line, call, places, at, 2)
 }
 
@@ -139,12 +139,12 @@ fn lists_differ<'a>(
     call: Call,
     places: Places,
     values: &'a [u64; LIST_BUFFER],
-    widths: &'a [u8; LIST_BUFFER],
+    bounds: &'a [u8; LIST_BUFFER],
     pcs: &'a [u64; LIST_BUFFER],
 ) -> bool {
     let mut i: usize = 0;
     while i < LIST_BUFFER {
-        if entry_differs(line, call, places, i as u64, values[i], widths[i], pcs[i]) {
+        if entry_differs(line, call, places, i as u64, values[i], bounds[i], pcs[i]) {
             return true;
         }
         i += 1;
@@ -162,17 +162,17 @@ fn run_listed(
     answer: &mut [u8],
 ) -> Called {
     let mut values = [0u64; LIST_BUFFER];
-    let mut widths = [0u8; LIST_BUFFER];
+    let mut bounds = [0u8; LIST_BUFFER];
     let mut pcs = [0u64; LIST_BUFFER];
     let v = room_within(call.room, &values);
-    let w = within(call.room, &widths);
+    let w = within(call.room, &bounds);
     let p = room_within(call.room, &pcs);
     let count = oracle_run(
         state,
         m,
         answer,
         &mut values[..v],
-        &mut widths[..w],
+        &mut bounds[..w],
         &mut pcs[..p],
         call.count as usize,
         call.fuel,
@@ -181,7 +181,7 @@ fn run_listed(
     Called {
         code: memory::bytes::number_at(answer, 0, 8),
         lists_differ: count as u64 != count_after(line, call, places)
-            || lists_differ(line, call, places, &values, &widths, &pcs),
+            || lists_differ(line, call, places, &values, &bounds, &pcs),
     }
 }
 

@@ -13,7 +13,7 @@ use Rattle.encoding.proofs.Extends.{cut-extended, extended-cut, extended-fits}
 use Rattle.encoding.proofs.Packed.{read-back, read-whole, made-back}
 use Rattle.refusal.specs.declared.Refusal.the-variants.{UnusedBits, Malformed}
 use Rattle.opcode.specs.Opcodes.{opcodeNumber, formOf, all, opcodeIn}
-use Rattle.instruction.specs.Operands.{joinedOf, partsOf}
+use Rattle.instruction.specs.Operands.{instructionOf, partsOf}
 use Rattle.forms.specs.Forms.{usedBits, immediateOf, immFits}
 use Rattle.words.specs.Words.{apartOf, foundApart, takeIn, decodedOf, decodeIn, partsFit, wordOf, encodedIn, encodeIn}
 use Rattle.opcode.specs.declared.Opcode.{Opcode}
@@ -180,7 +180,7 @@ module _ (num : Opcode → ℕ) where
       subst (λ (v : ℕ). Shows (num op) v (usedBits f) (kept f (read f op v)) (kept f p)) (x .1) (shows (num op) p (N .below op) f (fits-holds p (x .0))) in
       rw (s .number, found num N op, eq-eqb (w / 2 ^ usedBits f) 0 (s .unused))
       (ap D.Instruction
-      (sym (joined-kept (read f op w)) ∙ ap joinedOf (s .operands ∙ sym (parts-kept i)) ∙ joined-parts i))
+      (sym (joined-kept (read f op w)) ∙ ap instructionOf (s .operands ∙ sym (parts-kept i)) ∙ joined-parts i))
 
   -- what is known of a word that is read
   record Read (w : ℕ) (i : Instruction) : Type 0 where
@@ -196,7 +196,7 @@ module _ (num : Opcode → ℕ) where
       apart : (op : Opcode) → opcodeIn num (field 0 7 w) ≡ Op op → (t : Bool) → eqb (w / 2 ^ usedBits (formOf op)) 0 ≡ t
           → decodedOf (cond t (T.Apart (read (formOf op) op w)) (T.Refused (UnusedBits w))) ≡ D.Instruction i → Read w i
       apart op o true q e =
-          let j : i ≡ joinedOf (read (formOf op) op w) = cc in
+          let j : i ≡ instructionOf (read (formOf op) op w) = cc in
           record {
             op = op;
             number = number-found num all (field 0 7 w) op o;

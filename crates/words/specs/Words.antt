@@ -7,7 +7,7 @@ use Rattle.encoding.specs.Words.{rWord, iWord, sWord, jWord}
 use Rattle.refusal.specs.Stops.{refusalOf}
 use Rattle.opcode.specs.Opcodes.{formOf, opcodeIn}
 use Rattle.forms.specs.Forms.{usedBits, immediateOf, immFits}
-use Rattle.instruction.specs.Operands.{joinedOf, partsOf}
+use Rattle.instruction.specs.Operands.{instructionOf, partsOf}
 use Rattle.opcode.specs.declared.Opcode.{Opcode}
 use Rattle.opcode.specs.declared.Form.{Form}
 use Rattle.opcode.specs.declared.Form.the-variants.{R, I, Shift, S, B, J, Alone}
@@ -37,7 +37,7 @@ unfoldable pub takeIn : (Opcode → ℕ) → ℕ → Taken
 takeIn num w = foundApart (opcodeIn num (field 0 7 w)) w
 
 unfoldable pub decodedOf : Taken → Decoded
-decodedOf (T.Apart p) = D.Instruction (joinedOf p)
+decodedOf (T.Apart p) = D.Instruction (instructionOf p)
 decodedOf (T.Refused r) = D.Refused r
 
 abbrev pub decodeIn : (Opcode → ℕ) → ℕ → Decoded

@@ -5,7 +5,7 @@ use forms::form_of;
 use forms::immediate;
 use forms::unused;
 use instruction::Parts;
-use instruction::joined;
+use instruction::instruction_of;
 use opcode::Found;
 use opcode::Opcode;
 use opcode::opcode_of;
@@ -61,7 +61,7 @@ pub fn decode(word: u32) -> Decoded
     ensures { λ r. ⌜ r ≡ decodeIn opcodeNumber word ⌝ }
 {
     match take(word) {
-        Taken::Apart(p) => Decoded::Instruction(joined(p)),
+        Taken::Apart(p) => Decoded::Instruction(instruction_of(p)),
         Taken::Refused(r) => Decoded::Refused(r),
     }
 }

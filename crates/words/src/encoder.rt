@@ -11,7 +11,7 @@ use instruction::Instruction;
 use instruction::Parts;
 use instruction::parts_of;
 use opcode::Form;
-use opcode::number;
+use opcode::opcode_number;
 use refusal::Refusal;
 ghost use mathlib.Core.Path.{_≡_};
 ghost use Prim.Native.Nat.{_%_, _^_};
@@ -71,7 +71,7 @@ fn encoded(p: Parts) -> Encoded
 {
     let op = p.op;
     if parts_fit(p) {
-        Encoded::Word(word_of(form_of(op), whole(number(op)), p))
+        Encoded::Word(word_of(form_of(op), whole(opcode_number(op)), p))
     } else {
         Encoded::Refused(Refusal::Malformed)
     }

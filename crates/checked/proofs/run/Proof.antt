@@ -12,7 +12,7 @@ use Rattle.execute.specs.declared.Choices.{Choices}
 use Rattle.run.specs.Run.{Answer, run as runs}
 use Rattle.run.specs.declared.Ran.{Ran}
 use Rattle.checks.specs.Records.{listed}
-use Rattle.checked.specs.Inner.{Ahead, Begins, Turns}
+use Rattle.checked.specs.Inner.{Ahead, Begins, TurnsLeg}
 use Rattle.checks.specs.declared.Pending.{Pending}
 use Rattle.checked.specs.declared.Way.{Way}
 use Rattle.checked.specs.declared.Turned.{Turned}
@@ -186,7 +186,7 @@ module _ {M : Type 1} (𝓤 : URA M) (H : Heap 𝓤) (A : Atoms 𝓤) (W : Given
   room-list z = subst (Room K.the-row) (sym (z .same-list))
 
   -- a turn, by what its two calls said
-  module _ (z : Here) (g : z .at .going .on ≡ true) (t : Turned) (ms : List ℕ) (ls : List Pending) (e : Turns (z .at) (z .mem) (length (z .list)) t ms) (s : ls ≡ set (z .list) (t .place) (t .pending)) where
+  module _ (z : Here) (g : z .at .going .on ≡ true) (t : Turned) (ms : List ℕ) (ls : List Pending) (e : TurnsLeg (z .at) (z .mem) (length (z .list)) t ms) (s : ls ≡ set (z .list) (t .place) (t .pending)) where
     went : Ahead (t .next) ms ls goal
     went = rw s (turned (z .at) (z .mem) ms t (z .list) e g goal (z .comes))
 
@@ -239,8 +239,8 @@ module _ {M : Type 1} (𝓤 : URA M) (H : Heap 𝓤) (A : Atoms 𝓤) (W : Given
         move ! (2 ∷ 0 ∷ []) $ use2 W (raw (Turning 𝓤 H A at-mem run .pre (to-turn z ν δ))) (goes-turn z ν δ (room-list z room₀′ .0)) $
         calls-at ! (fmOf 𝓤 H (W .laws) 𝓣) (Turning 𝓤 H A at-mem run) known-turn (to-turn z ν δ) (and-then ! (load ! (from ! (stop !)) (look ! 22 refl)) (and-then ! (load ! (from ! (stop !)) (look ! 12 refl)) (and-then ! (load ! (from ! (stop !)) (look ! 10 refl)) (no-more !)))) (λ w.
         use1 W (later (some (λ (t : Turned). ((‵ (flft (ν ∷ []) fullShare) ⊛ ‵ ftrue) ⊛ ‵ (D.the-row .own t (w ∷ []))) ⊛ raw (ensured 𝓤 H A turn.ended (turn.clauses 𝓤 H A at-mem run) (ν ∷ [], tt) (asked z δ) tt t)))) (id⊢ 𝓤 _) $ await ! tt $ pick ! (λ t.
-        split ! $ move ! (1 ∷ []) $ use1 W (some (λ (zs : Unit {0} × (List ℕ × (Unit {0} × Unit {0}))). ‵ (lasts turn.ended (ν ∷ [], tt) (asked z δ) zs) ⊛ raw (fact 𝓤 (Turns (z .at) (z .mem) (length (z .list)) t (zs .1 .0))))) (id⊢ 𝓤 _) $ pick ! (λ zs.
-        split ! $ move ! (1 ∷ []) $ heard ! (Turns (z .at) (z .mem) (length (z .list)) t (zs .1 .0)) (λ e. fsplit ! $ drop ! $ fsplit ! $ fsplit ! $ move ! (1 ∷ []) $ feqL ! (λ lm.
+        split ! $ move ! (1 ∷ []) $ use1 W (some (λ (zs : Unit {0} × (List ℕ × (Unit {0} × Unit {0}))). ‵ (lasts turn.ended (ν ∷ [], tt) (asked z δ) zs) ⊛ raw (fact 𝓤 (TurnsLeg (z .at) (z .mem) (length (z .list)) t (zs .1 .0))))) (id⊢ 𝓤 _) $ pick ! (λ zs.
+        split ! $ move ! (1 ∷ []) $ heard ! (TurnsLeg (z .at) (z .mem) (length (z .list)) t (zs .1 .0)) (λ e. fsplit ! $ drop ! $ fsplit ! $ fsplit ! $ move ! (1 ∷ []) $ feqL ! (λ lm.
         move ! (2 ∷ []) $ split ! $ move ! (1 ∷ []) $ peeks ! D.the-row (Is D.the-row) (shows 𝓤 H A D.the-row) t (w ∷ []) (λ is.
         land ! (from ! (stop !)) (init ! 23 refl (LL.lawful D.the-type D′.the-laws 𝓤 H A W .typed t _ is .0)) $ rewrite ! 23 (λ (u : Val). ‵ (fat fullShare D′.mir l₈ 0 u)) (ap only (LL.tells D.the-type D′.the-laws t _ is)) refl $
         move ! (1 ∷ []) $ split ! $ lft-end ! tt $ move ! (0 ∷ 5 ∷ 3 ∷ []) $

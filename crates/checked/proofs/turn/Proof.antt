@@ -3,7 +3,7 @@ use Rattle.checked.proofs.turn.Statement.{statement}
 use Rattle.checked.proofs.turn.Tie as tie
 
 returns : tie.Need-returns
-returns c = (c .before .before .before .before .before .advance .result, rw (← c .before .before .before .before .before .before .before .room-at .ensures) (c .before .before .before .before .before .advance .ensures), c .before .after .ensures, c .before .before .note .ensures)
+returns c = (c .before .before .before .before .before .advance .result, rw (← c .before .before .before .before .before .before .before .room-at .ensures) (c .before .before .before .before .before .advance .ensures), c .before .next .ensures, c .before .before .note .ensures)
 
 pub turn-spec : {M : Type 1} → statement M
 turn-spec =

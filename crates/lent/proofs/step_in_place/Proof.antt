@@ -13,7 +13,7 @@ use Rattle.checks.specs.Records.{listed}
 use Rattle.checked.specs.Machine.{steppedOver}
 use Rattle.checks.specs.declared.Pending.{Pending}
 use Rattle.lent.proofs.Stepping.{valsC, valsS, Step, asked, to-step, goes-step}
-use Rattle.lent.specs.declared.Outcome.{Outcome}
+use Rattle.lent.specs.declared.InPlace.{InPlace}
 use Rattle.execute.proofs.Choices as O
 use Rattle.execute.proofs.Choices.Laws as O′
 use Rattle.state.proofs.State as T
@@ -35,7 +35,7 @@ use Rattle.lent.proofs.step_in_place.Code as code
 abbrev stayed : Stays (self.ended .signature .params) (self.ended .kept)
 stayed = (stay-ref (0 ∷ []) tt (plain (λ _. T.the-row)), (stay-none (λ _. O.the-row) yes, (gave-slice (1 ∷ []) tt (plain (λ _. u8)), (gave-slice (2 ∷ []) tt (plain (λ _. K.the-row)), (stay-none (λ _. usize) yes, tt)))))
 
-abbrev outcome : OneStep → Outcome
+abbrev outcome : OneStep → InPlace
 outcome r = record { went = r .went; count = r .count }
 
 module _ {M : Type 1} (𝓤 : URA M) (H : Heap 𝓤) (A : Atoms 𝓤) (W : Given 𝓤 H A) (at-mem : Memory → SProp 𝓤) (run : Routine → Fun 𝓤) (κ κ₁ κ₂ : Lft) (q q₁ q₂ : Share) (b o : ℕ) (γ : GName) (h : State) (c : Choices) (c-is : Is O.the-row c (valsC c))

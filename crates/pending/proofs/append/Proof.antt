@@ -17,7 +17,7 @@ same-length : tie.Need-same-length
 same-length c = c .before .before .before .before .before .values .given
 
 same-length-2 : tie.Need-same-length-2
-same-length-2 c = c .before .before .before .widths .given
+same-length-2 c = c .before .before .before .bounds .given
 
 same-length-3 : tie.Need-same-length-3
 same-length-3 c = c .before .pcs .given

@@ -11,13 +11,13 @@ same-length : tie.Need-same-length
 same-length c = c .before .before .before .before .before .before .before .before .before .values .given
 
 same-length-2 : tie.Need-same-length-2
-same-length-2 c = c .before .before .before .before .before .widths .given
+same-length-2 c = c .before .before .before .before .before .bounds .given
 
 same-length-3 : tie.Need-same-length-3
 same-length-3 c = c .before .pcs .given
 
 returns-2 : tie.Need-returns-2
-returns-2 c = rw (c .before .before .before .before .before .before .before .before .before .before .put-number .ensures, c .before .before .before .before .before .before .put-width .ensures, c .before .before .put-number2 .ensures) (a-place _ _ _ _ (omega arith))
+returns-2 c = rw (c .before .before .before .before .before .before .before .before .before .before .put-number .ensures, c .before .before .before .before .before .before .put-bound .ensures, c .before .before .put-number2 .ensures) (a-place _ _ _ _ (omega arith))
 
 pub note-spec : {M : Type 1} → statement M
 note-spec =

@@ -15,27 +15,27 @@ returns-2 c = entry-beyond _ _ (sym (c .before .before .lists-fit .ensures) ∙ 
 
 mul-t7 : tie.Need-mul-t7
 mul-t7 c = let a = c .before .before .before .before .before .before .args in
-    let t = fits-mean (lists (a .count) (now (a .values)) (now (a .widths)) (now (a .pcs))) (sym (c .before .before .lists-fit .ensures) ∙ not-false _ (c .before .if1 .left)) in
+    let t = fits-mean (lists (a .count) (now (a .values)) (now (a .bounds)) (now (a .pcs))) (sym (c .before .before .lists-fit .ensures) ∙ not-false _ (c .before .if1 .left)) in
     omega arith
 
 shared-slice-read-t12 : tie.Need-shared-slice-read-t12
 shared-slice-read-t12 c = let a = c .before .before .before .before .before .before .before .args in
-    let t = fits-mean (lists (a .count) (now (a .values)) (now (a .widths)) (now (a .pcs))) (sym (c .before .before .before .lists-fit .ensures) ∙ not-false _ (c .before .before .if1 .left)) in
+    let t = fits-mean (lists (a .count) (now (a .values)) (now (a .bounds)) (now (a .pcs))) (sym (c .before .before .before .lists-fit .ensures) ∙ not-false _ (c .before .before .if1 .left)) in
     omega arith
 
 shared-slice-read-t14 : tie.Need-shared-slice-read-t14
 shared-slice-read-t14 c = let a = c .before .before .before .before .before .before .before .before .args in
-    let t = fits-mean (lists (a .count) (now (a .values)) (now (a .widths)) (now (a .pcs))) (sym (c .before .before .before .before .lists-fit .ensures) ∙ not-false _ (c .before .before .before .if1 .left)) in
+    let t = fits-mean (lists (a .count) (now (a .values)) (now (a .bounds)) (now (a .pcs))) (sym (c .before .before .before .before .lists-fit .ensures) ∙ not-false _ (c .before .before .before .if1 .left)) in
     omega arith
 
 mul-t8 : tie.Need-mul-t8
 mul-t8 c = let a = c .before .before .before .before .before .before .before .before .args in
-    let t = fits-mean (lists (a .count) (now (a .values)) (now (a .widths)) (now (a .pcs))) (sym (c .before .before .before .before .lists-fit .ensures) ∙ not-false _ (c .before .before .before .if1 .left)) in
+    let t = fits-mean (lists (a .count) (now (a .values)) (now (a .bounds)) (now (a .pcs))) (sym (c .before .before .before .before .lists-fit .ensures) ∙ not-false _ (c .before .before .before .if1 .left)) in
     omega arith
 
 shared-slice-read-t16 : tie.Need-shared-slice-read-t16
 shared-slice-read-t16 c = let a = c .before .before .before .before .before .before .before .before .before .args in
-    let t = fits-mean (lists (a .count) (now (a .values)) (now (a .widths)) (now (a .pcs))) (sym (c .before .before .before .before .before .lists-fit .ensures) ∙ not-false _ (c .before .before .before .before .if1 .left)) in
+    let t = fits-mean (lists (a .count) (now (a .values)) (now (a .bounds)) (now (a .pcs))) (sym (c .before .before .before .before .before .lists-fit .ensures) ∙ not-false _ (c .before .before .before .before .if1 .left)) in
     omega arith
 
 returns-3 : tie.Need-returns-3

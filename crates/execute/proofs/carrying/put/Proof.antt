@@ -6,7 +6,7 @@ use Rattle.execute.proofs.carrying.put.Tie as tie
 
 returns : tie.Need-returns
 unfolding kept waits
-returns c = c .write .ensures ∙ ap (λ (R : Registers). put R (c .before .before .before .before .before .before .before .args .w .rd) (Whole (c .before .before .before .before .before .before .before .args .w .value)) (c .before .before .before .before .before .before .before .args .w .bound)) (c .before .before .before .before .settle .ensures _)
+returns c = c .write .ensures ∙ ap (λ (R : Registers). put R (c .before .before .before .before .before .before .before .args .w .rd) (Whole (c .before .before .before .before .before .before .before .args .w .value)) (c .before .before .before .before .before .before .before .args .w .bound)) (c .before .before .before .before .settle-two .ensures _)
 
 pub put-spec : {M : Type 1} → statement M
 put-spec =

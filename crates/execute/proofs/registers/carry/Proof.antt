@@ -14,7 +14,7 @@ returns-3 : tie.Need-returns-3
 returns-3 c = λ m. rw (c .checked .ensures, c .before .before .before .before .before .before .before .before .deed2 .given .1) (went-checks _ _ _ _ _ _ _ _ (sym (c .before .before .before .before .before .before .lacks .ensures) ∙ c .before .before .before .before .before .if1 .left) (c .before .put2 .ensures))
 
 returns-4 : tie.Need-returns-4
-returns-4 c = λ m. rw (c .onward2 .ensures, c .before .before .before .before .enum-told .given .1, c .before .settle .ensures _) (went-to _ _ _ _)
+returns-4 c = λ m. rw (c .onward2 .ensures, c .before .before .before .before .enum-told .given .1, c .before .settle-two .ensures _) (went-to _ _ _ _)
 
 returns-5 : tie.Need-returns-5
 returns-5 c = λ m. rw (c .refuse2 .ensures, c .before .before .deed3 .given .1) (went-refused _ _ _ _)

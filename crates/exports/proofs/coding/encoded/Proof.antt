@@ -11,8 +11,8 @@ cast-result c = search needs
 enum-known-e-2 : tie.Need-enum-known-e-2
 enum-known-e-2 c = search needs
 
-number-requires : tie.Need-number-requires
-number-requires c κs = tt
+number-of-requires : tie.Need-number-of-requires
+number-of-requires c κs = tt
 
 sub-result : tie.Need-sub-result
 sub-result c = search needs
@@ -21,9 +21,9 @@ returns : tie.Need-returns
 returns c = search needs
 
 returns-2 : tie.Need-returns-2
-returns-2 c = rw (c .number .ensures, c .before .before .e2 .given .1)
+returns-2 c = rw (c .number-of .ensures, c .before .before .e2 .given .1)
 
 pub encoded-spec : {M : Type 1} → statement M
 encoded-spec =
     tie.close
-    (tie.spec enum-known-e cast-result enum-known-e-2 number-requires sub-result returns returns-2)
+    (tie.spec enum-known-e cast-result enum-known-e-2 number-of-requires sub-result returns returns-2)

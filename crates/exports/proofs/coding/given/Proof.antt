@@ -9,15 +9,15 @@ opcode-of-requires c κs = tt
 enum-known-op : tie.Need-enum-known-op
 enum-known-op c = search needs
 
-joined-requires : tie.Need-joined-requires
-joined-requires c κs = tt
+instruction-of-requires : tie.Need-instruction-of-requires
+instruction-of-requires c κs = tt
 
 enum-told : tie.Need-enum-told
 enum-told c = search needs
 
 returns : tie.Need-returns
 unfolding givenOf
-returns c = rw (c .joined .ensures, ← c .before .before .before .before .opcode-of .ensures, c .before .before .op .given .1)
+returns c = rw (c .instruction-of .ensures, ← c .before .before .before .before .opcode-of .ensures, c .before .before .op .given .1)
 
 returns-2 : tie.Need-returns-2
 unfolding givenOf
@@ -26,4 +26,4 @@ returns-2 c = rw (← c .before .before .opcode-of .ensures, c .enum-told .given
 pub given-spec : {M : Type 1} → statement M
 given-spec =
     tie.close
-    (tie.spec opcode-of-requires enum-known-op joined-requires enum-told returns returns-2)
+    (tie.spec opcode-of-requires enum-known-op instruction-of-requires enum-told returns returns-2)

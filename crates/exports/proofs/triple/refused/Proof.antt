@@ -1,14 +1,14 @@
 use Rattle.exports.proofs.triple.refused.Statement.{statement}
 use Rattle.exports.proofs.triple.refused.Tie as tie
 
-number-requires : tie.Need-number-requires
-number-requires c κs = tt
+number-of-requires : tie.Need-number-of-requires
+number-of-requires c κs = tt
 
-particular-requires : tie.Need-particular-requires
-particular-requires c κs = tt
+particular-of-requires : tie.Need-particular-of-requires
+particular-of-requires c κs = tt
 
 returns : tie.Need-returns
-returns c = rw (c .particular .ensures, c .before .number .ensures)
+returns c = rw (c .particular-of .ensures, c .before .number-of .ensures)
 
 pub refused-spec : {M : Type 1} → statement M
-refused-spec = tie.close (tie.spec number-requires particular-requires returns)
+refused-spec = tie.close (tie.spec number-of-requires particular-of-requires returns)

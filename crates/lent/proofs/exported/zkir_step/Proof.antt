@@ -23,8 +23,8 @@ use Rattle.step.proofs.OneStep.Laws as N′
 use Rattle.checks.proofs.Pending as K
 use Rattle.lent.proofs.exported.Lent as L
 use Rattle.lent.proofs.exported.Lent.Laws as L′
-use Rattle.lent.proofs.exported.Answer as Q
-use Rattle.lent.proofs.exported.Answer.Laws as Q′
+use Rattle.lent.proofs.exported.StepAnswer as Q
+use Rattle.lent.proofs.exported.StepAnswer.Laws as Q′
 use Rattle.lent.proofs.exported.Ready as R
 use Rattle.lent.proofs.exported.Ready.Laws as R′
 use Rattle.lent.proofs.exported.Done as D

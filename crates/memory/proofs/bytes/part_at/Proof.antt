@@ -2,7 +2,7 @@ use denote.Ref.{now}
 use lib.ListN.{length}
 use mathlib.Core.Path.{_≡_, sym, _∙_}
 use Prim.Native.Nat.{_-_, min}
-use Rattle.memory.specs.Bytes.{number}
+use Rattle.memory.specs.Bytes.{numberOfBytes}
 use Rattle.memory.proofs.Numbers.{read-there}
 use native.Mathlib.Omega.{arith}
 use borrow.Author.Needs.{needs}
@@ -13,7 +13,7 @@ there-requires : tie.Need-there-requires
 there-requires c κs = search needs
 
 returns : tie.Need-returns
-unfolding number
+unfolding numberOfBytes
 returns c = let a = c .before .before .before .args in
     let none : min (min (a .n) 8) (length (now (a .m)) - a .at) ≡ 0 = omega arith in
     sym (read-there (min (a .n) 8) (now (a .m)) (a .at) ∙ rw none)

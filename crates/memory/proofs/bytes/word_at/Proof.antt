@@ -7,19 +7,19 @@ use lib.Dec.{lit<}
 use borrow.Author.Needs.{needs}
 use lib.ListN.{take, drop, getD}
 use denote.Ref.{now}
-use Rattle.memory.specs.Bytes.{number}
+use Rattle.memory.specs.Bytes.{numberOfBytes}
 use Rattle.memory.proofs.Numbers.{read-more, more-lt, fits-lt}
 use Rattle.memory.proofs.bytes.word_at.Statement.{statement}
 use Rattle.memory.proofs.bytes.word_at.Tie as tie
 
 abbrev Inv-loop : tie.InvT-loop
-Inv-loop m at n v₀ i₀ v i = (i ≤ n) × (v ≡ number (take (n - i) (drop (at + i) m))) × (v < 256 ^ (n - i))
+Inv-loop m at n v₀ i₀ v i = (i ≤ n) × (v ≡ numberOfBytes (take (n - i) (drop (at + i) m))) × (v < 256 ^ (n - i))
 
 abbrev μ-loop : tie.MeasureT-loop
 μ-loop m at n v₀ i₀ v i = i
 
 loop-holds : tie.Need-loop-holds Inv-loop μ-loop
-unfolding number
+unfolding numberOfBytes
 loop-holds c = rw sub-self (search needs, refl, lit< tt)
 
 sub-i : tie.Need-sub-i Inv-loop μ-loop

@@ -7,10 +7,10 @@ use Rattle.vectors.proofs.replay.lists_differ.Lts as lts
 use Rattle.vectors.proofs.replay.entry_differs.Reads as entry-differs-reads
 
 abbrev Inv-loop : tie.InvT-loop
-Inv-loop line call places values widths pcs i₀ i = Unit {0}
+Inv-loop line call places values bounds pcs i₀ i = Unit {0}
 
 abbrev μ-loop : tie.MeasureT-loop
-μ-loop line call places values widths pcs i₀ i = 16 - i
+μ-loop line call places values bounds pcs i₀ i = 16 - i
 
 -- src/replay.rt:147:5
 loop-holds : tie.Need-loop-holds Inv-loop μ-loop

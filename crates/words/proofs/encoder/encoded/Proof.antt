@@ -9,8 +9,8 @@ parts-fit-requires c κs = search needs
 form-of-requires : tie.Need-form-of-requires
 form-of-requires c κs = search needs
 
-number-requires : tie.Need-number-requires
-number-requires c κs = search needs
+opcode-number-requires : tie.Need-opcode-number-requires
+opcode-number-requires c κs = search needs
 
 whole-requires : tie.Need-whole-requires
 whole-requires c κs = search needs
@@ -20,7 +20,7 @@ word-of-requires c κs = search needs
 
 returns : tie.Need-returns
 unfolding encodedIn
-returns c = rw (← c .before .before .before .before .before .parts-fit .ensures, c .before .before .before .before .if1 .taken, c .word-of .ensures, c .before .whole .ensures, c .before .before .number .ensures, c .before .before .before .form-of .ensures)
+returns c = rw (← c .before .before .before .before .before .parts-fit .ensures, c .before .before .before .before .if1 .taken, c .word-of .ensures, c .before .whole .ensures, c .before .before .opcode-number .ensures, c .before .before .before .form-of .ensures)
 
 returns-2 : tie.Need-returns-2
 unfolding encodedIn
@@ -32,7 +32,7 @@ encoded-spec =
     (tie.spec
     parts-fit-requires
     form-of-requires
-    number-requires
+    opcode-number-requires
     whole-requires
     word-of-requires
     returns

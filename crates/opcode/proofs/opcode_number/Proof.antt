@@ -1,6 +1,6 @@
 use borrow.Author.Needs.{needs}
-use Rattle.opcode.proofs.number.Statement.{statement}
-use Rattle.opcode.proofs.number.Tie as tie
+use Rattle.opcode.proofs.opcode_number.Statement.{statement}
+use Rattle.opcode.proofs.opcode_number.Tie as tie
 
 enum-told : tie.Need-enum-told
 enum-told c = search needs
@@ -302,8 +302,8 @@ returns-49 c = rw (c .enum-told49 .given .1)
 returns-50 : tie.Need-returns-50
 returns-50 c = rw (c .enum-told50 .given .1)
 
-pub number-spec : {M : Type 1} → statement M
-number-spec =
+pub opcode-number-spec : {M : Type 1} → statement M
+opcode-number-spec =
     tie.close
     (tie.spec
     enum-told

@@ -1,7 +1,7 @@
 use borrow.Author.Tests.{le-leb, lt-leb}
 use Rattle.lent.specs.Lent.{laid}
-use Rattle.lent.proofs.exported.takes.Statement.{statement}
-use Rattle.lent.proofs.exported.takes.Tie as tie
+use Rattle.lent.proofs.exported.lent_taken.Statement.{statement}
+use Rattle.lent.proofs.exported.lent_taken.Tie as tie
 
 returns : tie.Need-returns
 unfolding laid
@@ -18,5 +18,5 @@ returns-3 : tie.Need-returns-3
 unfolding laid
 returns-3 c = rw (le-leb _ _ (c .before .before .before .before .before .if1 .left), le-leb _ _ (c .before .before .before .if2 .left)) (c .kinds-fit .ensures)
 
-pub takes-spec : {M : Type 1} → statement M
-takes-spec = tie.close (tie.spec returns returns-2 kinds-fit-requires returns-3)
+pub lent-taken-spec : {M : Type 1} → statement M
+lent-taken-spec = tie.close (tie.spec returns returns-2 kinds-fit-requires returns-3)

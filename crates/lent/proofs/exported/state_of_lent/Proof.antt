@@ -6,11 +6,11 @@ use mathlib.Core.Bool.{false}
 use lib.ListN.{getD, replicate}
 use lib.Seq.{sets}
 use lib.Dec.{eqb}
-use Rattle.lent.specs.Lent.{stateIn}
+use Rattle.lent.specs.Lent.{stateOfLent}
 use Rattle.layout.specs.Layout.{table}
 use Rattle.layout.proofs.Rows.{table-more, filled}
-use Rattle.lent.proofs.exported.state_in.Statement.{statement}
-use Rattle.lent.proofs.exported.state_in.Tie as tie
+use Rattle.lent.proofs.exported.state_of_lent.Statement.{statement}
+use Rattle.lent.proofs.exported.state_of_lent.Tie as tie
 
 abbrev Inv-loop : tie.InvT-loop
 Inv-loop r kinds accumulated₀ i₀ accumulated i =
@@ -42,11 +42,11 @@ together-requires : tie.Need-together-requires Inv-loop μ-loop
 together-requires c κs = tt
 
 returns : tie.Need-returns Inv-loop μ-loop
-unfolding stateIn
+unfolding stateOfLent
 returns c = rw (c .together .ensures, filled 16 (c .before .before .before .before .before .loop .accumulated) (replicate 16 false) (c .before .before .before .before .before .loop .i) (λ k. eqb (getD (c .before .before .before .before .before .before .before .args .r .kinds) k 0) 1) (omega arith) refl (c .before .before .before .before .before .loop .inv .1))
 
-pub state-in-spec : {M : Type 1} → statement M
-state-in-spec =
+pub state-of-lent-spec : {M : Type 1} → statement M
+state-of-lent-spec =
     tie.close
     (tie.spec
     Inv-loop

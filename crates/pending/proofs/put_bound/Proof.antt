@@ -2,14 +2,14 @@ use native.Mathlib.Omega.{arith}
 use lib.Seq.{set-out}
 use mathlib.Core.Path.{sym}
 use borrow.Author.Needs.{needs}
-use Rattle.pending.proofs.put_width.Statement.{statement}
-use Rattle.pending.proofs.put_width.Tie as tie
+use Rattle.pending.proofs.put_bound.Statement.{statement}
+use Rattle.pending.proofs.put_bound.Tie as tie
 
 returns-2 : tie.Need-returns-2
 returns-2 c = sym (set-out _ _ _ (omega arith))
 
-pub put-width-spec : {M : Type 1} → statement M
-put-width-spec =
+pub put-bound-spec : {M : Type 1} → statement M
+put-bound-spec =
     tie.close
     (tie.spec
     (λ c. search needs)

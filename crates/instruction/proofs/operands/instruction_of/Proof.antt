@@ -6,8 +6,8 @@ use Rattle.instruction.proofs.Kindred.{at-places}
 use mathlib.Core.List.{[], _∷_}
 use mathlib.Core.Path.{refl}
 use borrow.Author.Needs.{needs}
-use Rattle.instruction.proofs.operands.joined.Statement.{statement}
-use Rattle.instruction.proofs.operands.joined.Tie as tie
+use Rattle.instruction.proofs.operands.instruction_of.Statement.{statement}
+use Rattle.instruction.proofs.operands.instruction_of.Tie as tie
 
 enum-told : tie.Need-enum-told
 enum-told c = search needs
@@ -127,8 +127,8 @@ returns-15 : tie.Need-returns-15
 unfolding all
 returns-15 c = rw (c .operate .ensures, c .before .operation .ensures) (at-places (c .before .before .before .args .p) (λ (op : Opcode). N.Op (operationOf op) (c .before .before .before .args .p .a) (c .before .before .before .args .p .b) (c .before .before .before .args .p .c)) (3 ∷ 9 ∷ 10 ∷ 11 ∷ 15 ∷ 16 ∷ 17 ∷ 21 ∷ 22 ∷ 23 ∷ 24 ∷ 25 ∷ 26 ∷ []) refl (c .before .before .match .keys15))
 
-pub joined-spec : {M : Type 1} → statement M
-joined-spec =
+pub instruction-of-spec : {M : Type 1} → statement M
+instruction-of-spec =
     tie.close
     (tie.spec
     enum-told

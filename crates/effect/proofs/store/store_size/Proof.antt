@@ -7,8 +7,8 @@ use Rattle.memory.specs.Memory.{sizeOf}
 use Rattle.memory.specs.declared.Size.the-variants.{Byte}
 use Rattle.opcode.specs.Opcodes.{all}
 use borrow.Author.Needs.{needs}
-use Rattle.effect.proofs.store.size_of.Statement.{statement}
-use Rattle.effect.proofs.store.size_of.Tie as tie
+use Rattle.effect.proofs.store.store_size.Statement.{statement}
+use Rattle.effect.proofs.store.store_size.Tie as tie
 
 returns : tie.Need-returns
 unfolding storeSize
@@ -26,8 +26,8 @@ returns-4 : tie.Need-returns-4
 unfolding storeSize all
 returns-4 c = others sizeOf (λ (op : Opcode). storeSize (storeOf op)) Byte refl (c .before .args .op) (c .match .keys4)
 
-pub size-of-spec : {M : Type 1} → statement M
-size-of-spec =
+pub store-size-spec : {M : Type 1} → statement M
+store-size-spec =
     tie.close
     (tie.spec
     (λ c. search needs)

@@ -5,11 +5,11 @@ use mathlib.Core.Path.{_≡_, refl, sym, _∙_}
 use mathlib.Core.Bool.{false}
 use lib.ListN.{getD, replicate}
 use lib.Seq.{sets}
-use Rattle.lent.specs.Lent.{numbersOf}
+use Rattle.lent.specs.Lent.{lentOf}
 use Rattle.layout.specs.Layout.{table, markOf}
 use Rattle.layout.proofs.Rows.{table-more, filled}
-use Rattle.lent.proofs.exported.numbers_of.Statement.{statement}
-use Rattle.lent.proofs.exported.numbers_of.Tie as tie
+use Rattle.lent.proofs.exported.lent_of.Statement.{statement}
+use Rattle.lent.proofs.exported.lent_of.Tie as tie
 
 abbrev Inv-loop : tie.InvT-loop
 Inv-loop s accumulated kinds₀ i₀ kinds i =
@@ -44,11 +44,11 @@ kind-of-requires-2 : tie.Need-kind-of-requires-2 Inv-loop μ-loop
 kind-of-requires-2 c κs = tt
 
 returns : tie.Need-returns Inv-loop μ-loop
-unfolding numbersOf
+unfolding lentOf
 returns c = rw (c .kind-of2 .ensures, filled 16 (c .before .before .before .before .loop .kinds) (replicate 16 0) (c .before .before .before .before .loop .i) (λ k. markOf (getD (c .before .before .before .before .before .before .args .s .accumulated) k false)) (omega arith) refl (c .before .before .before .before .loop .inv .1))
 
-pub numbers-of-spec : {M : Type 1} → statement M
-numbers-of-spec =
+pub lent-of-spec : {M : Type 1} → statement M
+lent-of-spec =
     tie.close
     (tie.spec
     Inv-loop
