@@ -28,7 +28,7 @@ fn either(t: bool, x: u64, y: u64) -> u64
 }
 
 // Where the run goes on.
-fn target<'a>(pc: u64, p: Parts, regs: &'a [u64; 16], accumulated: &'a [bool; 16]) -> u64
+fn next_pc<'a>(pc: u64, p: Parts, regs: &'a [u64; 16], accumulated: &'a [bool; 16]) -> u64
     ensures { λ r. ⌜ r ≡ plus64 pc (cond (taken (branchKindOf (p .op)) (valueOf (heldAt (now (regs .entry)) (now (accumulated .entry)) (p .a))) (valueOf (heldAt (now (regs .entry)) (now (accumulated .entry)) (p .b)))) (p .imm) 4) ⌝ }
 {
     let op = p.op;
@@ -49,7 +49,7 @@ fn executed(
 {
     let choices = start.choices;
     let mode = choices.mode;
-    let next = target(start.pc, p, regs, accumulated);
+    let next = next_pc(start.pc, p, regs, accumulated);
     settle_two(mode, p.a, p.b, regs, accumulated);
     to(start, next)
 }
