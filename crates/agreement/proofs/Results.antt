@@ -37,6 +37,7 @@ results-exact κs a low high f h e d x =
     subst (NormalisedBy s n low high) (sym (x ∙ done-by s n low high f h e))
     (record {
       done = refl;
+      whole = N .whole;
       limbs-small = (omega arith, omega arith);
       small = N .small;
       exact = N .exact;

@@ -61,6 +61,7 @@ pub record Normalised (R : Registers) (n low high : ℕ) : Type 0 where
 -- what a call answers that normalised the register n of the state s, which held the limbs low and high
 pub record NormalisedBy (s : State) (n low high : ℕ) (r : Normalized) : Type 0 where
   pub done : r .answer ≡ Done
+  pub whole : holds (registersOf (r .state)) n ≡ Whole (joined (normal 20 low high))
   pub limbs-small : (getD (r .result .normalized) 0 0 < 2 ^ 20) × (getD (r .result .normalized) 1 0 < 2 ^ 20)
   pub small : (lowOf (holds (registersOf (r .state)) n) < 2 ^ 20) × (highOf (holds (registersOf (r .state)) n) < 2 ^ 20)
   pub exact : valueOf (holds (registersOf (r .state)) n) + 2 ^ 40 * getD (r .result .carries) 1 0 ≡ low + 2 ^ 20 * high
