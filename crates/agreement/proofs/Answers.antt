@@ -18,7 +18,7 @@ use Rattle.agreement.proofs.Fuel.{runs-within, runs-continue}
 use Rattle.agreement.proofs.Iterated.{runs-are-steps}
 
 -- what a call leaves is the answer of the run on what it was given
-leaves-run : (k : Mode) (κs : Lfts 4) (a : Args run_plain.signature κs) (x : Leaves run_plain.ended κs a) → Allows run_plain.ended (toldBy k) κs a x
+pub leaves-run : (k : Mode) (κs : Lfts 4) (a : Args run_plain.signature κs) (x : Leaves run_plain.ended κs a) → Allows run_plain.ended (toldBy k) κs a x
     → ranTo κs a x ≡ run k documentRules (fuelGiven κs a) (worldGiven κs a) (listsGiven κs a)
 unfolding toldBy
 leaves-run Plain κs a x e = e

@@ -13,7 +13,14 @@ use Rattle.state.specs.Held.{Held, Whole, Limbs, lowOf, highOf, heldOf, kept, w
 use Rattle.state.specs.Registers.{Registers, holds, noted, place, put, normalise}
 use Rattle.state.specs.Formed.{limbsFit, isZero, registerFits, zeroFits, allBelow, wellFormed}
 use Rattle.state.proofs.Normal.{settled-whole, whole-limbs, held-kept}
-use Rattle.agreement.specs.Keeping.{Formed}
+use Rattle.agreement.specs.Keeping.{SmallLimbs}
+
+-- `wellFormed` in facts: "R0 is whole, zero, bound 0", bounds at most 64, and "Accumulated limbs are below 2^30" (a whole register's always)
+pub record Formed (R : Registers) : Type 0 where
+  pub zero-whole : holds R 0 ≡ Whole 0
+  pub zero-bound : noted R 0 ≡ 0
+  pub bounded : (n : ℕ) → noted R n ≤ 64
+  pub small : SmallLimbs R
 
 pub both-true : (a b : Bool) → (a && b) ≡ true → (a ≡ true) × (b ≡ true)
 both-true true b e = (refl, e)

@@ -4,14 +4,14 @@ use mathlib.Core.Bool.{true}
 use Rattle.state.specs.Registers.{Registers}
 use Rattle.state.specs.Formed.{wellFormed}
 use Rattle.execute.specs.Rules.{documentRules}
-use Rattle.execute.specs.declared.Mode.the-variants.{Plain, Deferred}
 use Rattle.step.specs.Step.{Left}
 use Rattle.run.specs.Run.{Answer}
 use Rattle.agreement.specs.Contracts.{worldGiven, fuelGiven, listsGiven, worldStepped, listsStepped}
 use Rattle.agreement.specs.Keeping.{SmallLimbs}
-use Rattle.agreement.specs.Statements.{StepsKeepLimbs, RunsKeepLimbs, StepCallsKeepLimbs, DeferredCallsKeepLimbs, PlainCallsKeepLimbs}
+use Rattle.agreement.specs.Statements.{StepsKeepLimbs, RunsKeepLimbs, StepCallsKeepLimbs, RunCallsKeepLimbs}
 use Rattle.agreement.proofs.Formed.{formed}
 use Rattle.agreement.proofs.Capped.{document-capped}
+use Rattle.agreement.proofs.Answers.{leaves-run}
 use Rattle.agreement.proofs.Sound.{formed-after-step, formed-after-run}
 
 abbrev LimbsFit : Registers → Type 0
@@ -27,14 +27,9 @@ pub runs-keep-limbs : RunsKeepLimbs
 runs-keep-limbs k fuel w l e = fit _ (formed-after-run documentRules document-capped k fuel w l e)
 
 -- what a call leaves is what is defined
-ran-fit : {s t : Answer} → s ≡ t → LimbsFit (t .world .registers) → LimbsFit (s .world .registers)
-ran-fit p = subst⁻¹ (λ (s : Answer). LimbsFit (s .world .registers)) p
-
 pub step-calls-keep-limbs : StepCallsKeepLimbs
 step-calls-keep-limbs κs a x p e = subst⁻¹ (λ (s : Left). LimbsFit (s .world .registers)) p (steps-keep-limbs (a .0 .mode) (worldStepped κs a) (listsStepped κs a) e)
 
-pub deferred-calls-keep-limbs : DeferredCallsKeepLimbs
-deferred-calls-keep-limbs κs a x p e = ran-fit p (runs-keep-limbs Deferred (fuelGiven κs a) (worldGiven κs a) (listsGiven κs a) e)
-
-pub plain-calls-keep-limbs : PlainCallsKeepLimbs
-plain-calls-keep-limbs κs a x p e = ran-fit p (runs-keep-limbs Plain (fuelGiven κs a) (worldGiven κs a) (listsGiven κs a) e)
+pub run-calls-keep-limbs : RunCallsKeepLimbs
+run-calls-keep-limbs k κs a x p e =
+    subst⁻¹ (λ (s : Answer). LimbsFit (s .world .registers)) (leaves-run k κs a x p) (runs-keep-limbs k (fuelGiven κs a) (worldGiven κs a) (listsGiven κs a) e)

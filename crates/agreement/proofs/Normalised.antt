@@ -12,9 +12,8 @@ use Rattle.state.proofs.Files.{normalise-set}
 use Rattle.state.proofs.Normal.{waits-held}
 use Rattle.state.proofs.Normal.{value-and-carry, settled-whole, whole-limbs, others-stay, bounds-stay}
 use Rattle.deferred.proofs.Seeing.{value-stays}
-use Rattle.agreement.specs.Keeping.{Formed}
 use Rattle.agreement.specs.Statements.{NormalisingIsExact}
-use Rattle.agreement.proofs.Formed.{formed}
+use Rattle.agreement.proofs.Formed.{Formed, formed}
 
 unmarked : (fs : List Bool) (k : ℕ) → getD (set fs k false) k false ≡ false
 unmarked [] k = refl

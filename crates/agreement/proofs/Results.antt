@@ -10,9 +10,9 @@ use Rattle.state.specs.Registers.{Registers, holds, normalise}
 use Rattle.state.specs.Formed.{wellFormed, registersOf}
 use Rattle.state.specs.declared.State.{State}
 use Rattle.normalize.specs.Normalizing.{resultOf, wouldOverflow, withRegisters, normalizedTo, normalizeAndWrite, normalizeRegister}
-use Rattle.agreement.specs.Keeping.{Formed, NormalisedBy}
+use Rattle.agreement.specs.Keeping.{NormalisedBy}
 use Rattle.agreement.specs.Statements.{ResultsAreExact}
-use Rattle.agreement.proofs.Formed.{formed}
+use Rattle.agreement.proofs.Formed.{Formed, formed}
 use Rattle.agreement.proofs.Normalised.{not-zero, normalised}
 
 fitting : (R : Registers) (n low high : ℕ) → Formed R → holds R n ≡ Limbs low high → wouldOverflow low high ≡ false
@@ -33,15 +33,10 @@ pub results-exact : ResultsAreExact
 results-exact κs a low high f h e d x =
     let s = a .0 in
     let n = a .1 .0 in
-    let N = normalised (registersOf s) n low high f e in
     subst (NormalisedBy s n low high) (sym (x ∙ done-by s n low high f h e))
     (record {
       done = refl;
-      whole = N .whole;
       limbs-small = (omega arith, omega arith);
-      small = N .small;
-      exact = N .exact;
-      bounds = N .bounds;
-      others = N .others;
+      registers = normalised (registersOf s) n low high f e;
       pc-and-mark = (refl, refl);
     })

@@ -28,9 +28,8 @@ use Rattle.execute.specs.Rules.{Rules, obey}
 use Rattle.step.specs.Step.{fetched, Left, left, stepOf, goesOn}
 use Rattle.run.specs.Run.{Answer, answer, preceded, following, loop, run}
 use Rattle.agreement.specs.Reading.{noMarks, readAll, readWorld, unchecked, readStep, Sized, readAnswer}
-use Rattle.agreement.specs.Keeping.{Formed}
 use Rattle.agreement.specs.Statements.{RunsAgree, RunsOnValues}
-use Rattle.agreement.proofs.Formed.{both-true, all-from, formed, well-formed}
+use Rattle.agreement.proofs.Formed.{Formed, both-true, all-from, formed, well-formed}
 use Rattle.agreement.proofs.Reading.{no-mark, read-held}
 use Rattle.agreement.proofs.Keeping.{inner-step-keeps}
 use Rattle.agreement.proofs.Sized.{sized-after}

@@ -14,11 +14,11 @@ use Rattle.pending.specs.declared.Room.{Room}
 use Rattle.execute.specs.declared.Mode.{Mode}
 use Rattle.deferred.proofs.Waiting.{fits-true}
 use Rattle.instruction.specs.declared.Instruction.{Instruction}
-use Rattle.agreement.specs.Keeping.{Capped, Formed}
+use Rattle.agreement.specs.Keeping.{Capped}
 use Rattle.agreement.specs.Statements.{InstructionsKeep, StepsKeep, RunsKeep}
 use Rattle.agreement.proofs.Cases.{cond-case}
 use Rattle.agreement.proofs.Values.{settled-sum}
-use Rattle.agreement.proofs.Formed.{formed, well-formed, formed-put, formed-whole, formed-normalise}
+use Rattle.agreement.proofs.Formed.{Formed, formed, well-formed, formed-put, formed-whole, formed-normalise}
 use Rattle.agreement.proofs.Capped.{effect-bound}
 use Rattle.agreement.proofs.Keeping.{execute-keeps, step-keeps, run-keeps}
 

@@ -6,7 +6,7 @@ use mathlib.Core.List.{[]}
 use lib.ListN.{getD}
 use Rattle.refusal.specs.declared.Refusal.{Refusal}
 use Rattle.state.specs.Held.{Whole, lowOf, highOf, valueOf, normal, joined}
-use Rattle.state.specs.Registers.{Registers, holds, noted, normalise}
+use Rattle.state.specs.Registers.{Registers, holds}
 use Rattle.state.specs.Formed.{registersOf}
 use Rattle.state.specs.declared.State.{State}
 use Rattle.normalize.specs.declared.Normalized.{Normalized}
@@ -35,13 +35,6 @@ pub record Capped (N : Notes) : Type 0 where
 abbrev pub SmallLimbs : Registers → Type 0
 SmallLimbs R = (n : ℕ) → (lowOf (holds R n) < 2 ^ 30) × (highOf (holds R n) < 2 ^ 30)
 
--- `wellFormed` in facts: "R0 is whole, zero, bound 0", bounds at most 64, and "Accumulated limbs are below 2^30" (a whole register's always)
-pub record Formed (R : Registers) : Type 0 where
-  pub zero-whole : holds R 0 ≡ Whole 0
-  pub zero-bound : noted R 0 ≡ 0
-  pub bounded : (n : ℕ) → noted R n ≤ 64
-  pub small : SmallLimbs R
-
 -- a step that is refused leaves the world and the lists as they were
 abbrev pub Restores : Left → World → Lists → Type 0
 Restores s w l = (r : Refusal) → s .went ≡ W.Refused r → (s .world ≡ w) × (s .lists ≡ l)
@@ -50,21 +43,17 @@ Restores s w l = (r : Refusal) → s .went ≡ W.Refused r → (s .world ≡ w) 
 abbrev pub Undoes : Stepped → World → Type 0
 Undoes s w = (r : Refusal) → s .went ≡ W.Refused r → (s .world ≡ w) × (s .checks ≡ [])
 
--- the register n, which held the limbs low and high, normalised
-pub record Normalised (R : Registers) (n low high : ℕ) : Type 0 where
-  pub whole : holds (normalise n R) n ≡ Whole (joined (normal 20 low high))
-  pub small : (lowOf (holds (normalise n R) n) < 2 ^ 20) × (highOf (holds (normalise n R) n) < 2 ^ 20)
-  pub exact : valueOf (holds (normalise n R) n) + 2 ^ 40 * normal 20 low high .carry1 ≡ low + 2 ^ 20 * high
-  pub bounds : (normalise n R) .bounds ≡ R .bounds
-  pub others : (m : ℕ) → m % 16 ≢ n % 16 → holds (normalise n R) m ≡ holds R m
+-- the register n of R, which held the limbs low and high, normalised in T, with what was carried out of the high limb
+pub record Normalised (R T : Registers) (n low high carried : ℕ) : Type 0 where
+  pub whole : holds T n ≡ Whole (joined (normal 20 low high))
+  pub small : (lowOf (holds T n) < 2 ^ 20) × (highOf (holds T n) < 2 ^ 20)
+  pub exact : valueOf (holds T n) + 2 ^ 40 * carried ≡ low + 2 ^ 20 * high
+  pub bounds : T .bounds ≡ R .bounds
+  pub others : (m : ℕ) → m % 16 ≢ n % 16 → holds T m ≡ holds R m
 
 -- what a call answers that normalised the register n of the state s, which held the limbs low and high
 pub record NormalisedBy (s : State) (n low high : ℕ) (r : Normalized) : Type 0 where
   pub done : r .answer ≡ Done
-  pub whole : holds (registersOf (r .state)) n ≡ Whole (joined (normal 20 low high))
   pub limbs-small : (getD (r .result .normalized) 0 0 < 2 ^ 20) × (getD (r .result .normalized) 1 0 < 2 ^ 20)
-  pub small : (lowOf (holds (registersOf (r .state)) n) < 2 ^ 20) × (highOf (holds (registersOf (r .state)) n) < 2 ^ 20)
-  pub exact : valueOf (holds (registersOf (r .state)) n) + 2 ^ 40 * getD (r .result .carries) 1 0 ≡ low + 2 ^ 20 * high
-  pub bounds : r .state .bounds ≡ s .bounds
-  pub others : (m : ℕ) → m % 16 ≢ n % 16 → holds (registersOf (r .state)) m ≡ holds (registersOf s) m
+  pub registers : Normalised (registersOf s) (registersOf (r .state)) n low high (getD (r .result .carries) 1 0)
   pub pc-and-mark : (r .state .pc ≡ s .pc) × (r .state .halted ≡ s .halted)

@@ -8,8 +8,8 @@ use contract.Lifetimes.{Lfts}
 use denote.Triple.Entry.{Args}
 use borrow.Fn.Kinds.{GoodsP}
 use Rattle.refusal.specs.declared.Refusal.{Refusal}
-use Rattle.state.specs.Held.{Held, Limbs, lowOf, highOf, settled}
-use Rattle.state.specs.Registers.{Registers, holds}
+use Rattle.state.specs.Held.{Held, Limbs, lowOf, highOf, normal, settled}
+use Rattle.state.specs.Registers.{Registers, holds, normalise}
 use Rattle.state.specs.Formed.{wellFormed, allWhole, registersOf}
 use Rattle.normalize.proofs.normalize_register
 use Rattle.effect.specs.Notes.{Notes}
@@ -135,22 +135,16 @@ DifferencesAreHeld =
     (N : Notes) (rd rs1 rs2 : ℕ) (R : Registers) → Full R → rd % 16 ≢ 0
     → holds (subtracted N rd rs1 rs2 R) rd ≡ Limbs (lowOf (holds R rs1) - lowOf (holds R rs2)) (highOf (holds R rs1) - highOf (holds R rs2))
 
--- Of the code: the state that a call of `step`, of `run_deferred` and of `run_plain` leaves, as far as their own contracts allow it.
+-- Of the code: the state that a call of `step`, and of `run_plain` or `run_deferred`, leaves, as far as their own contracts allow it.
 abbrev pub StepCallsKeepLimbs : Type 0
 StepCallsKeepLimbs =
     (κs : Lfts 4) (a : Args step·step.signature κs) (x : Leaves step·step.ended κs a) → Allows step·step.ended step·step.Reads.Learnt κs a x
     → wellFormed (worldStepped κs a .registers) ≡ true
     → let after = registersOf (x .0 .state) in (wellFormed after ≡ true) × SmallLimbs after
 
-abbrev pub DeferredCallsKeepLimbs : Type 0
-DeferredCallsKeepLimbs =
-    (κs : Lfts 4) (a : Args run_deferred.signature κs) (x : Leaves run_deferred.ended κs a) → Allows run_deferred.ended run_deferred.Reads.Learnt κs a x
-    → wellFormed (worldGiven κs a .registers) ≡ true
-    → let after = registersOf (x .0 .state) in (wellFormed after ≡ true) × SmallLimbs after
-
-abbrev pub PlainCallsKeepLimbs : Type 0
-PlainCallsKeepLimbs =
-    (κs : Lfts 4) (a : Args run_plain.signature κs) (x : Leaves run_plain.ended κs a) → Allows run_plain.ended run_plain.Reads.Learnt κs a x
+abbrev pub RunCallsKeepLimbs : Type 0
+RunCallsKeepLimbs =
+    (k : Mode) (κs : Lfts 4) (a : Args run_plain.signature κs) (x : Leaves run_plain.ended κs a) → Allows run_plain.ended (toldBy k) κs a x
     → wellFormed (worldGiven κs a .registers) ≡ true
     → let after = registersOf (x .0 .state) in (wellFormed after ≡ true) × SmallLimbs after
 
@@ -199,7 +193,8 @@ LentStepsRestore =
 -- Normalising an accumulated register of a well-formed state.
 abbrev pub NormalisingIsExact : Type 0
 NormalisingIsExact =
-    (R : Registers) (n low high : ℕ) → wellFormed R ≡ true → holds R n ≡ Limbs low high → Normalised R n low high
+    (R : Registers) (n low high : ℕ) → wellFormed R ≡ true → holds R n ≡ Limbs low high
+    → Normalised R (normalise n R) n low high (normal 20 low high .carry1)
 
 -- Of the code: whatever `normalize_register` leaves, as far as its own contract allows it.
 abbrev pub ResultsAreExact : Type 0

@@ -2,12 +2,13 @@
 use Prim.Native.Nat.{ℕ}
 use mathlib.Core.Path.{_≡_}
 use mathlib.Core.List.{List}
+use Rattle.pending.specs.Pending.{checksOf}
 use Rattle.state.specs.Registers.{Registers, normalise}
 use Rattle.instruction.specs.declared.Instruction.{Instruction}
 use Rattle.words.specs.declared.Decoded.{Decoded}
 use Rattle.effect.specs.Outcomes.{Outcome}
 use Rattle.effect.specs.Effects.{seen, effect}
-use Rattle.execute.specs.World.{World, world, Stepped, advanced, done}
+use Rattle.execute.specs.World.{World, world, Stepped, stepped, done}
 use Rattle.execute.specs.Modes.{settleSources}
 use Rattle.execute.specs.Execute.{execute}
 use Rattle.execute.specs.Rules.{rulesOf, obey}
@@ -15,6 +16,10 @@ use Rattle.execute.specs.declared.Mode.{Mode}
 use Rattle.execute.specs.declared.Mode.the-variants.{Plain, Deferred}
 use Rattle.execute.specs.declared.Start.{Start}
 use Rattle.execute.specs.declared.Advance.{Advance}
+
+-- what the code gives back, with what was lent to it
+abbrev pub advanced : Advance → Registers → List ℕ → Stepped
+advanced a R m = stepped (a .went) (world (a .pc) (a .halted) R m) (checksOf (a .checks))
 
 -- where a step starts, over registers and memory
 abbrev pub started : Start → Registers → List ℕ → World

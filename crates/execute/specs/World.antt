@@ -14,9 +14,8 @@ use Rattle.effect.specs.Outcomes.{Goes, Stores, Nothing, Bytes, Effect, Outcome
 use Rattle.effect.specs.Outcomes as G
 use Rattle.execute.specs.declared.Went.{Went}
 use Rattle.execute.specs.declared.Went.the-variants as W
-use Rattle.pending.specs.Pending.{Check, check, checksOf, lacks}
+use Rattle.pending.specs.Pending.{Check, check, lacks}
 use Rattle.pending.specs.declared.Room.{Room}
-use Rattle.execute.specs.declared.Advance.{Advance}
 
 pub record World : Type 0 where
   pub pc : ℕ
@@ -42,10 +41,6 @@ stepped g w cs = record { went = g; world = w; checks = cs }
 -- a refused step leaves everything as it was
 abbrev pub refused : Refusal → World → Stepped
 refused r w = stepped (W.Refused r) w []
-
--- what the code gives back, with what was lent to it
-abbrev pub advanced : Advance → Registers → List ℕ → Stepped
-advanced a R m = stepped (a .went) (world (a .pc) (a .halted) R m) (checksOf (a .checks))
 
 abbrev pub wentOf : Goes → Went
 wentOf G.On = W.On

@@ -26,9 +26,8 @@ ghost use Rattle.effect.specs.Notes.{documentNotes};
 ghost use Rattle.effect.specs.Effects.{seen};
 ghost use Rattle.effect.specs.Tables.{turnOutcome, oneOf};
 ghost use Rattle.deferred.specs.Limbs.{limbed};
-ghost use Rattle.execute.specs.World.{advanced};
 ghost use Rattle.execute.specs.Modes.{limbsIn};
-ghost use Rattle.execute.specs.Starts.{obeyed, doing, onWhole, carried, Always, settleTwo};
+ghost use Rattle.execute.specs.Starts.{advanced, obeyed, doing, onWhole, carried, Always, settleTwo};
 
 fn carry(
     start: Start,

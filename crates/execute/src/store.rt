@@ -22,8 +22,7 @@ ghost use Rattle.words.specs.Words.{apartOf, decodedOf};
 ghost use Rattle.state.specs.Held.{valueOf};
 ghost use Rattle.state.specs.Registers.{registers, heldAt};
 ghost use Rattle.effect.specs.Operations.{plus64, storeSize};
-ghost use Rattle.execute.specs.World.{advanced};
-ghost use Rattle.execute.specs.Starts.{obeyed, doing};
+ghost use Rattle.execute.specs.Starts.{advanced, obeyed, doing};
 
 // The bytes are stored, or the store is refused.
 fn stored<'a>(p: Parts, regs: &'a [u64; 16], accumulated: &'a [bool; 16], m: &mut [u8]) -> Stored

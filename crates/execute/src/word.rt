@@ -18,9 +18,8 @@ ghost use Rattle.encoding.specs.Fields.{field};
 ghost use Rattle.opcode.specs.Opcodes.{opcodeNumber, opcodeIn};
 ghost use Rattle.words.specs.Words.{apartOf, decodedOf, decodeIn};
 ghost use Rattle.state.specs.Registers.{registers};
-ghost use Rattle.execute.specs.World.{advanced};
 ghost use Rattle.execute.specs.Rules.{rulesOf};
-ghost use Rattle.execute.specs.Starts.{obeyed};
+ghost use Rattle.execute.specs.Starts.{advanced, obeyed};
 
 fn by_form(
     start: Start,

@@ -1,3 +1,4 @@
 pub mod Held
 pub mod Registers
+pub mod Becoming
 pub mod Formed
