@@ -15,8 +15,7 @@ use Rattle.instruction.specs.declared.Instruction.the-variants.{Sub, Ecall}
 use Rattle.state.specs.Registers.{Registers, normalise}
 use Rattle.effect.specs.Notes.{Notes}
 use Rattle.effect.specs.Tables.{isRegisters, isImmediate}
-use Rattle.deferred.specs.Limbs.{added, addedImm, limbed, limbs}
-use Rattle.deferred.specs.Plan.{limbsIf}
+use Rattle.deferred.specs.Limbs.{added, addedImm, limbed, limbs, limbsIf}
 use Rattle.deferred.specs.Sources.{sources, normaliseEach}
 
 -- what an opcode of each form normalises; Ecall stands alone

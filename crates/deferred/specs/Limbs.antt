@@ -60,3 +60,7 @@ limbs N (Jal rd imm) R = limbed false R
 limbs N (Jalr rd rs1 imm) R = limbed false R
 limbs N Ecall R = limbed false R
 limbs N Ebreak R = limbed false R
+
+-- the limb form, if one is asked for
+abbrev pub limbsIf : Bool → Notes → Instruction → Registers → Limbed
+limbsIf t N i R = cond t (limbs N i R) (limbed false R)

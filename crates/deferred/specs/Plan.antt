@@ -1,12 +1,10 @@
 -- Inner: what the code decides on before anything changes: what it reads of a source, and what a limb form then does to the registers.
 use Prim.Native.Nat.{ℕ, _%_, _^_, _<_}
 use mathlib.Core.Path.{_≡_}
-use mathlib.Core.Bool.{Bool, true, false, cond}
+use mathlib.Core.Bool.{true, false, cond}
 use Rattle.state.specs.Held.{Held, Limbs, lowOf, highOf}
 use Rattle.state.specs.Registers.{Registers, place, normalise}
-use Rattle.effect.specs.Notes.{Notes}
-use Rattle.instruction.specs.declared.Instruction.{Instruction}
-use Rattle.deferred.specs.Limbs.{Limbed, limbed, limbs}
+use Rattle.deferred.specs.Limbs.{Limbed, limbed}
 use Rattle.deferred.specs.declared.sums.Operand.{Operand}
 use Rattle.deferred.specs.declared.sums.Plan.{Plan}
 
@@ -32,7 +30,3 @@ planned k rd rs1 R = cond (k .waits) (limbed true (plannedInto k rd rs1 R)) (lim
 -- of whatever rd, rs1 and registers, since it is decided from the operands alone
 abbrev pub Plans : Plan → (ℕ → ℕ → Registers → Limbed) → Type 0
 Plans k f = (rd rs1 : ℕ) (R : Registers) → planned k rd rs1 R ≡ f rd rs1 R
-
--- the limb form, if one is asked for
-abbrev pub limbsIf : Bool → Notes → Instruction → Registers → Limbed
-limbsIf t N i R = cond t (limbs N i R) (limbed false R)

@@ -7,15 +7,14 @@ use sums::Operand;
 use sums::Plan;
 ghost use mathlib.Core.Path.{_≡_};
 ghost use mathlib.Core.Bool.{true, cond};
-ghost use Rattle.state.specs.Registers.{registers, heldAt, boundAt, normalise};
-ghost use Rattle.state.specs.Becoming.{Becomes};
+ghost use Rattle.state.specs.Registers.{registers, heldAt, boundAt, normalise, Becomes};
 ghost use Rattle.effect.specs.Notes.{documentNotes};
 ghost use Rattle.effect.specs.Tables.{isRegisters, isImmediate};
 ghost use Rattle.instruction.specs.Operands.{instructionOf};
 ghost use Rattle.instruction.specs.declared.Instruction.the-variants.{Sub};
-ghost use Rattle.deferred.specs.Limbs.{added, addedImm, limbed, limbs};
+ghost use Rattle.deferred.specs.Limbs.{added, addedImm, limbed, limbs, limbsIf};
 ghost use Rattle.opcode.specs.Opcodes.{formOf};
-ghost use Rattle.deferred.specs.Plan.{operand, Small, plannedInto, planned, limbsIf};
+ghost use Rattle.deferred.specs.Plan.{operand, Small, plannedInto, planned};
 
 mod sums; // sums.rt: the sums and differences of limbs, in numbers alone
 

@@ -36,8 +36,7 @@ use Rattle.effect.specs.Outcomes.{Outcome}
 use Rattle.effect.specs.Outcomes as G
 use Rattle.effect.specs.Effects.{seen, writes, goesTo, storesAt, onStorable, storing, effect}
 use Rattle.deferred.specs.Sources.{sources, normaliseEach}
-use Rattle.deferred.specs.Limbs.{limbed, limbs}
-use Rattle.deferred.specs.Plan.{limbsIf}
+use Rattle.deferred.specs.Limbs.{limbed, limbs, limbsIf}
 use Rattle.deferred.proofs.Forms.{placed, settles-placed}
 use Rattle.execute.specs.World.{world, Stepped, stepped, refused, done}
 use Rattle.execute.specs.Modes.{limbsIn, settleSources}

@@ -1,4 +1,3 @@
 pub mod Held
 pub mod Registers
-pub mod Becoming
 pub mod Formed

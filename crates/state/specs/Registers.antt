@@ -1,6 +1,7 @@
 -- The sixteen registers, in three lists: the number that is kept of each, whether it is accumulated, and its bound. Above this file the
 -- definitions see them through `holds`, `noted`, `put` and `normalise` alone.
 use Prim.Native.Nat.{ℕ, zero, suc, _%_}
+use mathlib.Core.Path.{_≡_}
 use mathlib.Core.Bool.{Bool, false}
 use mathlib.Core.List.{List}
 use lib.ListN.{getD, set}
@@ -43,3 +44,7 @@ normalise n R = put R n (settled (holds R n)) (noted R n)
 unfoldable pub normaliseTo : ℕ → Registers → Registers
 normaliseTo zero R = R
 normaliseTo (suc k) R = normalise (suc k) (normaliseTo k R)
+
+-- two of the three lists become what f makes of them, whatever the bounds
+abbrev pub Becomes : (Registers → Registers) → List ℕ → List Bool → List ℕ → List Bool → Type 0
+Becomes f vs fs us gs = (bs : List ℕ) → registers us gs bs ≡ f (registers vs fs bs)

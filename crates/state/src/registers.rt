@@ -4,8 +4,7 @@ ghost use Prim.Native.Nat.{_%_, _<_, _^_};
 ghost use mathlib.Core.Bool.{false};
 ghost use lib.ListN.{getD};
 ghost use Rattle.state.specs.Held.{valueOf, lowOf, highOf, heldOf};
-ghost use Rattle.state.specs.Registers.{heldAt, boundAt, registers, place, normalise, normaliseTo};
-ghost use Rattle.state.specs.Becoming.{Becomes};
+ghost use Rattle.state.specs.Registers.{heldAt, boundAt, registers, place, normalise, normaliseTo, Becomes};
 
 fn value_of(waits: bool, v: u64) -> u64
     ensures { λ r. ⌜ r ≡ valueOf (heldOf waits v) ⌝ }

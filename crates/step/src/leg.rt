@@ -15,9 +15,8 @@ ghost use Prim.Native.Nat.{_≤_};
 ghost use Rattle.state.specs.Registers.{registers};
 ghost use Rattle.pending.specs.Pending.{checksOf};
 ghost use Rattle.execute.specs.World.{worldOf};
-ghost use Rattle.execute.specs.Starts.{advanced};
 ghost use Rattle.execute.specs.Rules.{rulesOf};
-ghost use Rattle.execute.specs.Starts.{started};
+ghost use Rattle.execute.specs.Starts.{advanced, started};
 ghost use Rattle.step.specs.Step.{stepIn, goesOn, counted};
 ghost use Rattle.step.specs.Leg.{unlisted, legIn, gone};
 

@@ -1,6 +1,5 @@
 use Rattle.state.proofs.Files.{normaliseTo-more}
-use Rattle.state.specs.Registers.{normalise, normaliseTo}
-use Rattle.state.specs.Becoming.{Becomes}
+use Rattle.state.specs.Registers.{Becomes, normalise, normaliseTo}
 use borrow.Author.Needs.{needs}
 use native.Mathlib.Omega.{arith}
 use mathlib.Core.Path.{_≡_, refl, sym, ap, _∙_}
