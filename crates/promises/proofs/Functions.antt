@@ -26,6 +26,14 @@ use Rattle.host.proofs as host
 use Rattle.singles.proofs as singles
 use Rattle.exports.proofs as exports
 use Rattle.machines.proofs as machines
+use Rattle.told.proofs as told
+use Rattle.names.proofs as names
+use Rattle.labels.proofs as labels
+use Rattle.sums.proofs as sums
+use Rattle.lines.proofs as lines
+use Rattle.printing.proofs as printing
+use Rattle.programs.proofs as programs
+use Rattle.text.proofs as text
 use Rattle.state.specs.Registers.{Registers}
 use Rattle.deferred.specs.Limbs.{Limbed}
 use Rattle.execute.specs.World.{Stepped}
@@ -42,6 +50,7 @@ use Rattle.effect.specs.declared.immediate.Turn.{Turn}
 use Rattle.promises.proofs.Laws.{one, two, _&_}
 use Rattle.promises.proofs.Asked.{asked}
 use Rattle.promises.proofs.Tables.{one-deed, one-turn, one-shift}
+use Rattle.promises.proofs.Texts.{one-found, one-read, one-said, one-left}
 use Rattle.promises.proofs.Regrouped.{advanceOf, executedOf, oneStepOf, ranOf, goneOf}
 
 -- ---- encoding
@@ -660,3 +669,65 @@ machines·oracle-step κs a x y = one (λ (l : MachineCall). l .lists .count & l
 
 pub machines·oracle-run : Determined machines.oracle_run.ended machines.oracle_run.Reads.Learnt
 machines·oracle-run κs a x y = one (λ (l : MachineCall). l .lists .count & l .state & l .memory & l .answer & l .lists .values & l .lists .bounds & l .lists .pcs & x .1 .1 .1 .1 .1 .1 .1)
+
+-- ---- told
+pub told·done : Determined told.done.ended told.done.Reads.Learnt
+told·done κs a x y = one (λ r. r & x .1)
+
+pub told·refused : Determined told.refused.ended told.refused.Reads.Learnt
+told·refused κs a x y = one (λ r. r & x .1)
+
+-- ---- names
+pub names·name-of : Determined names.name_of.ended names.name_of.Reads.Learnt
+names·name-of κs a x y = one (λ r. r & x .1)
+
+pub names·named : Determined names.named.ended names.named.Reads.Learnt
+names·named κs a x y = one (λ r. r & x .1)
+
+-- ---- labels
+pub labels·text·byte : Determined labels.text.byte.ended labels.text.byte.Reads.Learnt
+labels·text·byte κs a x y = one (λ r. r & x .1)
+
+pub labels·text·digit : Determined labels.text.digit.ended labels.text.digit.Reads.Learnt
+labels·text·digit κs a x y = one (λ r. r & x .1)
+
+pub labels·text·letter : Determined labels.text.letter.ended labels.text.letter.Reads.Learnt
+labels·text·letter κs a x y = one (λ r. r & x .1)
+
+pub labels·text·skip : Determined labels.text.skip.ended labels.text.skip.Reads.Learnt
+labels·text·skip κs a x y = one (λ r. r & x .1)
+
+pub labels·text·after-name : Determined labels.text.after_name.ended labels.text.after_name.Reads.Learnt
+labels·text·after-name κs a x y = one (λ r. r & x .1)
+
+pub labels·table·find : Determined labels.table.find.ended labels.table.find.Reads.Learnt
+labels·table·find κs a x y = one-found (λ r. r & x .1) (x .0) (y .0)
+
+pub labels·table·note : Determined labels.table.note.ended labels.table.note.Reads.Learnt
+labels·table·note κs a x y = two (λ r m. r & tt & m & x .1 .1 .1)
+
+-- ---- sums
+pub sums·sum : Determined sums.sum.ended sums.sum.Reads.Learnt
+sums·sum κs a x y = one-read (now (a .0)) (a .1 .1 .1 .1 .0) (λ r. r & x .1) (x .0) (y .0)
+
+-- ---- lines
+pub lines·start-of : Determined lines.start_of.ended lines.start_of.Reads.Learnt
+lines·start-of κs a x y = one (λ r. r & x .1)
+
+pub lines·line : Determined lines.line.ended lines.line.Reads.Learnt
+lines·line κs a x y = one-said (now (a .0)) (λ r. r & x .1) (x .0) (y .0)
+
+-- ---- printing
+pub printing·print : Determined printing.print.ended printing.print.Reads.Learnt
+printing·print κs a x y = two (λ r m. r & tt & m & x .1 .1 .1)
+
+-- ---- programs
+pub programs·assemble : Determined programs.assemble.ended programs.assemble.Reads.Learnt
+programs·assemble κs a x y = one-left (now (a .0)) (now (a .1 .0)) (now (a .1 .1 .0)) (λ l. l .told & tt & l .words & l .labels & x .1 .1 .1 .1) _ _
+
+-- ---- text
+pub text·zkir-assemble : Determined text.zkir_assemble.ended text.zkir_assemble.Reads.Learnt
+text·zkir-assemble κs a x y = one-left (now (a .0)) (now (a .1 .0)) (now (a .1 .1 .0)) (λ l. l .told & tt & l .words & l .labels & x .1 .1 .1 .1) _ _
+
+pub text·zkir-print : Determined text.zkir_print.ended text.zkir_print.Reads.Learnt
+text·zkir-print κs a x y = two (λ r m. r & tt & m & x .1 .1 .1)

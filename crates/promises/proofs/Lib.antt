@@ -2,6 +2,7 @@ pub mod Laws
 pub mod Regrouped
 pub mod Asked
 pub mod Tables
+pub mod Texts
 pub mod Functions
 pub mod Corners
 pub mod Control

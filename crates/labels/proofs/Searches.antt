@@ -1,0 +1,81 @@
+-- One slot of the table after another. Assumes nothing.
+use mathlib.Core.Path.{_≡_, refl, sym, ap, _∙_, subst}
+use mathlib.Core.Bool.{Bool, true, false, cond, _&&_}
+use mathlib.Core.List.{List, [], _∷_}
+use Prim.Native.Nat.{ℕ, zero, suc, _+_, _-_, _<_}
+use native.Mathlib.Nat.{mod-lt}
+use native.Mathlib.Omega.{arith}
+use native.Mathlib.Numerals.{add-one, add-two, sub-one}
+use lib.ListN.{set}
+use lib.Seq.{sets}
+use borrow.Author.Tests.{eq-eqb, ne-eqb, eqb-false}
+use lib.Dec.{eqb}
+use Rattle.labels.specs.Bytes.{eqBytes}
+use Rattle.labels.specs.Reading.{nameAt}
+use Rattle.labels.specs.Table.{keyOf, slotsOf, placeAt, keyAt, homeOf, nextOf, holds, searchFrom, searchIn}
+use Rattle.labels.specs.declared.table.Slot.{Slot}
+use Rattle.labels.specs.declared.table.Slot.the-variants.{Held, Free, Full}
+
+module _ (text table name : List ℕ) (k : ℕ) where
+  search-turn : (left : ℕ) → (left ≡ 0 → ⊥) → searchFrom text table name left k
+      ≡ cond (eqb (keyAt table k) 0) (Free k) (cond (holds text table name k) (Held k) (searchFrom text table name (left - 1) (nextOf (slotsOf table) k)))
+  unfolding searchFrom
+  search-turn zero n = absurd (n refl)
+  search-turn (suc left) n =
+      ap (λ (l : ℕ). cond (eqb (keyAt table k) 0) (Free k) (cond (holds text table name k) (Held k) (searchFrom text table name l (nextOf (slotsOf table) k))))
+      (sym (sub-one (suc left)))
+
+  pub search-free : (left : ℕ) → (left ≡ 0 → ⊥) → keyAt table k ≡ 0 → searchFrom text table name left k ≡ Free k
+  search-free left n e = search-turn left n ∙ simp (eq-eqb _ _ e)
+
+  pub search-held : (left : ℕ) → (left ≡ 0 → ⊥) → (keyAt table k ≡ 0 → ⊥) → holds text table name k ≡ true → searchFrom text table name left k ≡ Held k
+  search-held left n e h = search-turn left n ∙ simp (ne-eqb _ _ e, h)
+
+  pub search-on : (left : ℕ) → (left ≡ 0 → ⊥) → (keyAt table k ≡ 0 → ⊥) → holds text table name k ≡ false
+      → searchFrom text table name left k ≡ searchFrom text table name (left - 1) (nextOf (slotsOf table) k)
+  search-on left n e h = search-turn left n ∙ simp (ne-eqb _ _ e, h)
+
+  -- what is tested of a slot, where w is the name's key
+  pub held : (w : ℕ) → w ≡ keyOf name → (t : Bool) → eqb (keyAt table k) w && eqBytes (nameAt text (placeAt table k)) name ≡ t → holds text table name k ≡ t
+  held w e t h = ap (λ (n : ℕ). eqb (keyAt table k) n && eqBytes (nameAt text (placeAt table k)) name) (sym e) ∙ h
+
+-- ---- a slot that a search ends at is one of the table's
+pub next-below : (slots k : ℕ) → k < slots → nextOf slots k < slots
+next-below slots k h = go (eqb (k + 1) slots) refl
+  where
+    go : (t : Bool) → eqb (k + 1) slots ≡ t → cond t 0 (k + 1) < slots
+    go true e = omega arith
+    go false e = let n = eqb-false (k + 1) slots e in omega arith
+
+abbrev slotBelow : ℕ → Slot → Type 0
+slotBelow n (Held k) = k < n
+slotBelow n (Free k) = k < n
+slotBelow n Full = Unit {0}
+
+module _ (text table name : List ℕ) where
+  from-below : (left k : ℕ) → ((left ≡ 0 → ⊥) → k < slotsOf table) → slotBelow (slotsOf table) (searchFrom text table name left k)
+  unfolding searchFrom
+  from-below zero k h = tt
+  from-below (suc left) k h = go (eqb (keyAt table k) 0) (holds text table name k) (from-below left (nextOf (slotsOf table) k) (λ _. next-below (slotsOf table) k below))
+    where
+      below : k < slotsOf table
+      below = h (λ z. omega arith)
+
+      go : (a b : Bool) → slotBelow (slotsOf table) (searchFrom text table name left (nextOf (slotsOf table) k))
+          → slotBelow (slotsOf table) (cond a (Free k) (cond b (Held k) (searchFrom text table name left (nextOf (slotsOf table) k))))
+      go true b r = below
+      go false true r = below
+      go false false r = r
+
+  search-below : slotBelow (slotsOf table) (searchIn text table name)
+  unfolding searchIn
+  search-below = from-below (slotsOf table) (homeOf (keyOf name) (slotsOf table)) (λ n. mod-lt _ (omega (arith, n)))
+
+  pub held-below : (k : ℕ) → searchIn text table name ≡ Held k → k < slotsOf table
+  held-below k e = subst (slotBelow (slotsOf table)) e search-below
+
+  pub free-below : (k : ℕ) → searchIn text table name ≡ Free k → k < slotsOf table
+  free-below k e = subst (slotBelow (slotsOf table)) e search-below
+
+pub three-sets : (l : List ℕ) (i a b c : ℕ) → set (set (set l i a) (i + 1) b) (i + 2) c ≡ sets l i (a ∷ (b ∷ (c ∷ [])))
+three-sets l i a b c = ap (λ (n : ℕ). set (set (set l i a) n b) (i + 2) c) (add-one i) ∙ ap (λ (n : ℕ). set (set (set l i a) (suc i) b) n c) (add-two i)

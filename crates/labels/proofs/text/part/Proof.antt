@@ -1,0 +1,22 @@
+use borrow.Author.Needs.{needs}
+use Rattle.labels.proofs.text.part.Statement.{statement}
+use Rattle.labels.proofs.text.part.Tie as tie
+use Rattle.labels.proofs.text.part.Reads as reads
+use Rattle.labels.proofs.text.part.Lts as lts
+use Rattle.labels.proofs.text.digit.Reads as digit-reads
+use Rattle.labels.proofs.text.letter.Reads as letter-reads
+
+-- src/text.rt:33:5
+letter-requires : tie.Need-letter-requires
+letter-requires c κs = search needs
+
+-- src/text.rt:33:17
+digit-requires : tie.Need-digit-requires
+digit-requires c κs = search needs
+
+-- src/text.rt:30:1
+returns : tie.Need-returns
+returns c = simp (c .before .letter .ensures, c .digit .ensures)
+
+pub part-spec : {M : Type 1} → statement M
+part-spec = tie.close (tie.spec letter-requires digit-requires returns)

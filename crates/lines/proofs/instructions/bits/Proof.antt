@@ -1,0 +1,31 @@
+use Rattle.lines.proofs.Words.{first-bad, first-got, last-none, last-some, register-any, none-word, some-word, kept-three, kept-two, kept-one, kept-none, bits-of}
+use Rattle.lines.specs.Code.{regSeen}
+use Rattle.lines.specs.Lines.{register, immediate, wordIn, toldBy, parts}
+use Rattle.sums.specs.Code.{lookIn, of64, seen}
+use Rattle.words.specs.declared.Encoded.{Encoded}
+use Rattle.words.specs.Words.{encodeIn}
+use Rattle.instruction.specs.declared.Instruction.{Instruction}
+use Rattle.opcode.specs.Opcodes.{opcodeNumber, formOf}
+use lib.ListN.{drop}
+use lib.IntN.{pos}
+use Prim.Native.Nat.{ℕ}
+use mathlib.Core.Option.{Option, none, some}
+use mathlib.Core.List.{List, [], _∷_}
+use mathlib.Core.Path.{_≡_, refl, sym, _∙_, ap, subst}
+use borrow.Author.Needs.{needs}
+use Rattle.lines.proofs.instructions.bits.Statement.{statement}
+use Rattle.lines.proofs.instructions.bits.Tie as tie
+use Rattle.lines.proofs.instructions.bits.Reads as reads
+use Rattle.lines.proofs.instructions.bits.Lts as lts
+use Rattle.std.proofs.num.wrapping_add_u64.Reads as wrapping-add-u64-reads
+
+-- src/instructions.rt:45:5
+wrapping-add-u64-requires : tie.Need-wrapping-add-u64-requires
+wrapping-add-u64-requires c κs = search needs
+
+-- src/instructions.rt:42:1
+returns : tie.Need-returns
+returns c = c .wrapping-add-u64 .ensures ∙ bits-of (c .before .args .v) (c .before .fits .v .fits)
+
+pub bits-spec : {M : Type 1} → statement M
+bits-spec = tie.close (tie.spec wrapping-add-u64-requires returns)

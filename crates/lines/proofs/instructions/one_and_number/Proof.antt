@@ -1,0 +1,89 @@
+use Rattle.lines.proofs.Words.{first-bad, first-got, last-none, last-some, register-any, none-word, some-word, kept-three, kept-two, kept-one, kept-none, bits-of}
+use Rattle.lines.specs.Code.{regSeen}
+use Rattle.lines.specs.Lines.{register, immediate, wordIn, toldBy, parts}
+use Rattle.sums.specs.Code.{lookIn, of64, seen}
+use Rattle.words.specs.declared.Encoded.{Encoded}
+use Rattle.words.specs.Words.{encodeIn}
+use Rattle.instruction.specs.declared.Instruction.{Instruction}
+use Rattle.opcode.specs.Opcodes.{opcodeNumber, formOf}
+use lib.ListN.{drop}
+use lib.IntN.{pos}
+use Prim.Native.Nat.{ℕ}
+use mathlib.Core.Option.{Option, none, some}
+use mathlib.Core.List.{List, [], _∷_}
+use mathlib.Core.Path.{_≡_, refl, sym, _∙_, ap, subst}
+use borrow.Author.Needs.{needs}
+use Rattle.lines.proofs.instructions.one_and_number.Statement.{statement}
+use Rattle.lines.proofs.instructions.one_and_number.Tie as tie
+use Rattle.lines.proofs.instructions.one_and_number.Reads as reads
+use Rattle.lines.proofs.instructions.one_and_number.Lts as lts
+use Rattle.lines.proofs.instructions.bits.Reads as bits-reads
+use Rattle.lines.proofs.instructions.word.Reads as word-reads
+use Rattle.lines.proofs.operands.number_last.Reads as number-last-reads
+use Rattle.lines.proofs.operands.register_comma.Reads as register-comma-reads
+
+-- src/instructions.rt:96:25
+register-comma-requires : tie.Need-register-comma-requires
+register-comma-requires c κs = search needs
+
+-- src/instructions.rt:96:17
+enum-known-a : tie.Need-enum-known-a
+enum-known-a c = search needs
+
+-- src/instructions.rt:97:9
+enum-told : tie.Need-enum-told
+enum-told c = search needs
+
+-- src/instructions.rt:97:9
+returns : tie.Need-returns
+returns c = let s = c .before .before .before .before .before .before .args .s .now in let look = lookIn (c .before .before .before .before .before .before .args .text .now) (c .before .before .before .before .before .before .args .table .now) (c .before .before .before .before .before .before .args .base) in
+    none-word (c .before .before .before .before .before .before .args .op) _ (first-bad look register immediate [] (drop (c .before .before .before .before .before .before .args .at) s) (register-any look (lookIn [] [] 0) _ _ (c .before .before .register-comma .ensures .0 ∙ ap (regSeen s) (c .enum-told .given .1))))
+
+-- src/instructions.rt:99:29
+number-last-requires : tie.Need-number-last-requires
+number-last-requires c κs = search needs
+
+-- src/instructions.rt:99:21
+enum-known-v : tie.Need-enum-known-v
+enum-known-v c = search needs
+
+-- src/instructions.rt:100:9
+enum-told-2 : tie.Need-enum-told-2
+enum-told-2 c = search needs
+
+-- src/instructions.rt:100:9
+returns-2 : tie.Need-returns-2
+returns-2 c = let s = c .before .before .before .before .before .before .before .before .before .before .args .s .now in let look = lookIn (c .before .before .before .before .before .before .before .before .before .before .args .text .now) (c .before .before .before .before .before .before .before .before .before .before .args .table .now) (c .before .before .before .before .before .before .before .before .before .before .args .base) in
+    none-word (c .before .before .before .before .before .before .before .before .before .before .args .op) _ (first-got look register immediate [] (drop (c .before .before .before .before .before .before .before .before .before .before .args .at) s) (pos (c .before .before .before .before .a .given .0 .0)) (drop (c .before .before .before .before .a .given .0 .1 .0) s) none (register-any look (lookIn [] [] 0) _ _ (c .before .before .before .before .before .before .register-comma .ensures .0 ∙ ap (regSeen s) (c .before .before .before .before .a .given .1)))
+    (last-none look immediate (drop (c .before .before .before .before .a .given .0 .1 .0) s) (c .before .before .number-last .ensures ∙ ap (seen s) (c .enum-told2 .given .1))))
+
+-- src/instructions.rt:107:14
+bits-requires : tie.Need-bits-requires
+bits-requires c κs = search needs
+
+-- src/instructions.rt:102:5
+word-requires : tie.Need-word-requires
+word-requires c κs = search needs
+
+-- src/instructions.rt:92:1
+returns-3 : tie.Need-returns-3
+returns-3 c = let s = c .before .before .before .before .before .before .before .before .before .before .before .before .before .args .s .now in let look = lookIn (c .before .before .before .before .before .before .before .before .before .before .before .before .before .args .text .now) (c .before .before .before .before .before .before .before .before .before .before .before .before .before .args .table .now) (c .before .before .before .before .before .before .before .before .before .before .before .before .before .args .base) in
+    let a = c .before .before .before .before .before .before .before .a .given .0 .0 in let v = of64 (c .before .before .before .v .given .0 .0) in
+    some-word (c .before .before .before .before .before .before .before .before .before .before .before .before .before .args .op) _ (pos a ∷ (v ∷ [])) (parts (c .before .before .before .before .before .before .before .before .before .before .before .before .before .args .op) a 0 0 (c .before .bits .result)) (first-got look register immediate [] (drop (c .before .before .before .before .before .before .before .before .before .before .before .before .before .args .at) s) (pos a) (drop (c .before .before .before .before .before .before .before .a .given .0 .1 .0) s) (some (v ∷ [])) (register-any look (lookIn [] [] 0) _ _ (c .before .before .before .before .before .before .before .before .before .register-comma .ensures .0 ∙ ap (regSeen s) (c .before .before .before .before .before .before .before .a .given .1)))
+    (last-some look immediate (drop (c .before .before .before .before .before .before .before .a .given .0 .1 .0) s) v _ (c .before .before .before .before .before .number-last .ensures ∙ ap (seen s) (c .before .before .before .v .given .1)))) refl (kept-one (c .before .before .before .before .before .before .before .before .before .before .before .before .before .args .op) a v (c .before .bits .result) (c .before .before .before .before .before .before .before .before .before .before .before .before .before .pre) (c .before .bits .ensures)) ∙ c .word .ensures
+
+pub one-and-number-spec : {M : Type 1} → statement M
+one-and-number-spec =
+    tie.close
+    (tie.spec
+    register-comma-requires
+    enum-known-a
+    enum-told
+    returns
+    number-last-requires
+    enum-known-v
+    enum-told-2
+    returns-2
+    bits-requires
+    word-requires
+    returns-3)

@@ -1,0 +1,9 @@
+pub mod Readings
+pub mod Lines
+pub mod Top
+pub mod Checks
+pub mod Writes
+pub mod Notes
+pub mod Meets
+pub mod Passes
+pub mod Ends

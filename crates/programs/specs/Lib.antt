@@ -1,0 +1,3 @@
+pub mod Programs
+pub mod Promise
+pub mod Code

@@ -1,0 +1,65 @@
+use mathlib.Core.Path.{_≡_, refl, sym, ap, _∙_}
+use Prim.Native.Nat.{ℕ, _+_, _-_, _*_, _^_}
+use native.Mathlib.Omega.{arith}
+use lib.Dec.{eqb}
+use borrow.Author.Tests.{eq-eqb, ne-eqb}
+use Rattle.sums.specs.Sums.{checked, join, add, sub, dif}
+use Rattle.sums.specs.Code.{of64}
+use Rattle.sums.proofs.Differences.{dif-eq, dif-add, dif-sub, dif-fits, dif-high, dif-low, signed-dif}
+use borrow.Author.Needs.{needs}
+use Rattle.sums.proofs.numbers.distance.Statement.{statement}
+use Rattle.sums.proofs.numbers.distance.Tie as tie
+use Rattle.sums.proofs.numbers.distance.Reads as reads
+use Rattle.sums.proofs.numbers.distance.Lts as lts
+use Rattle.sums.proofs.numbers.lowered.Reads as lowered-reads
+use Rattle.sums.proofs.numbers.raised.Reads as raised-reads
+
+-- src/numbers.rt:48:33
+mul-raised : tie.Need-mul-raised
+mul-raised c = search needs
+
+-- src/numbers.rt:48:13
+raised-requires : tie.Need-raised-requires
+raised-requires c κs = search needs
+
+-- src/numbers.rt:48:13
+returns : tie.Need-returns
+returns c = ap checked (dif-eq _ _ _ _ (omega arith)) ∙ c .raised .ensures
+
+-- src/numbers.rt:50:9
+returns-2 : tie.Need-returns-2
+returns-2 c = dif-high _ _ (omega arith)
+
+-- src/numbers.rt:52:13
+sub-k : tie.Need-sub-k
+sub-k c = search needs
+
+-- src/numbers.rt:54:30
+mul-lowered : tie.Need-mul-lowered
+mul-lowered c = search needs
+
+-- src/numbers.rt:54:9
+lowered-requires : tie.Need-lowered-requires
+lowered-requires c κs = search needs
+
+-- src/numbers.rt:54:9
+returns-3 : tie.Need-returns-3
+returns-3 c = ap checked (dif-eq _ _ _ _ (omega arith)) ∙ c .lowered .ensures
+
+-- src/numbers.rt:42:1
+returns-4 : tie.Need-returns-4
+returns-4 c = dif-low _ _ (omega arith)
+
+pub distance-spec : {M : Type 1} → statement M
+distance-spec =
+    tie.close
+    (tie.spec
+    mul-raised
+    raised-requires
+    returns
+    returns-2
+    sub-k
+    mul-lowered
+    lowered-requires
+    returns-3
+    returns-4)

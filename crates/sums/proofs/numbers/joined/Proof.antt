@@ -1,0 +1,35 @@
+use mathlib.Core.Bool.{Bool, cond}
+use mathlib.Core.Path.{_≡_, refl, sym, ap, _∙_}
+use Prim.Native.Nat.{ℕ, _+_, _-_, _*_, _^_}
+use native.Mathlib.Omega.{arith}
+use lib.Dec.{eqb}
+use borrow.Author.Tests.{eq-eqb, ne-eqb}
+use Rattle.sums.specs.Sums.{checked, join, add, sub, dif}
+use Rattle.sums.specs.Code.{of64}
+use Rattle.sums.proofs.Differences.{dif-eq, dif-add, dif-sub, dif-fits, dif-high, dif-low, signed-dif}
+use borrow.Author.Needs.{needs}
+use Rattle.sums.proofs.numbers.joined.Statement.{statement}
+use Rattle.sums.proofs.numbers.joined.Tie as tie
+use Rattle.sums.proofs.numbers.joined.Reads as reads
+use Rattle.sums.proofs.numbers.joined.Lts as lts
+use Rattle.sums.proofs.numbers.minus.Reads as minus-reads
+use Rattle.sums.proofs.numbers.plus.Reads as plus-reads
+
+-- src/numbers.rt:82:9
+plus-requires : tie.Need-plus-requires
+plus-requires c κs = search needs
+
+-- src/numbers.rt:82:9
+returns : tie.Need-returns
+returns c = ap (λ (t : Bool). checked (join (cond t add sub) (of64 (c .before .before .args .v)) (of64 (c .before .before .args .w)))) (eq-eqb _ _ (c .before .if1 .taken)) ∙ ap checked (dif-add _ _ _ _) ∙ c .plus .ensures
+
+-- src/numbers.rt:84:5
+minus-requires : tie.Need-minus-requires
+minus-requires c κs = search needs
+
+-- src/numbers.rt:78:1
+returns-2 : tie.Need-returns-2
+returns-2 c = ap (λ (t : Bool). checked (join (cond t add sub) (of64 (c .before .before .args .v)) (of64 (c .before .before .args .w)))) (ne-eqb _ _ (c .before .if1 .left)) ∙ ap checked (dif-sub _ _ _ _ ∙ dif-eq _ _ _ _ (omega arith)) ∙ c .minus .ensures
+
+pub joined-spec : {M : Type 1} → statement M
+joined-spec = tie.close (tie.spec plus-requires returns minus-requires returns-2)

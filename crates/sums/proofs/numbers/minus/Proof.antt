@@ -1,0 +1,38 @@
+use mathlib.Core.Path.{_≡_, refl, sym, ap, _∙_}
+use Prim.Native.Nat.{ℕ, _+_, _-_, _*_, _^_}
+use native.Mathlib.Omega.{arith}
+use lib.Dec.{eqb}
+use borrow.Author.Tests.{eq-eqb, ne-eqb}
+use Rattle.sums.specs.Sums.{checked, join, add, sub, dif}
+use Rattle.sums.specs.Code.{of64}
+use Rattle.sums.proofs.Differences.{dif-eq, dif-add, dif-sub, dif-fits, dif-high, dif-low, signed-dif}
+use borrow.Author.Needs.{needs}
+use Rattle.sums.proofs.numbers.minus.Statement.{statement}
+use Rattle.sums.proofs.numbers.minus.Tie as tie
+use Rattle.sums.proofs.numbers.minus.Reads as reads
+use Rattle.sums.proofs.numbers.minus.Lts as lts
+use Rattle.sums.proofs.numbers.lowered.Reads as lowered-reads
+use Rattle.sums.proofs.numbers.raised.Reads as raised-reads
+
+-- src/numbers.rt:72:9
+lowered-requires : tie.Need-lowered-requires
+lowered-requires c κs = search needs
+
+-- src/numbers.rt:72:9
+returns : tie.Need-returns
+returns c = ap checked (dif-eq _ _ _ _ (omega arith)) ∙ c .lowered .ensures
+
+-- src/numbers.rt:74:15
+sub-raised : tie.Need-sub-raised
+sub-raised c = search needs
+
+-- src/numbers.rt:74:5
+raised-requires : tie.Need-raised-requires
+raised-requires c κs = search needs
+
+-- src/numbers.rt:68:1
+returns-2 : tie.Need-returns-2
+returns-2 c = ap checked (dif-eq _ _ _ _ (omega arith)) ∙ c .raised .ensures
+
+pub minus-spec : {M : Type 1} → statement M
+minus-spec = tie.close (tie.spec lowered-requires returns sub-raised raised-requires returns-2)

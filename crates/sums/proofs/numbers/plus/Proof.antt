@@ -1,0 +1,38 @@
+use mathlib.Core.Path.{_≡_, refl, sym, ap, _∙_}
+use Prim.Native.Nat.{ℕ, _+_, _-_, _*_, _^_}
+use native.Mathlib.Omega.{arith}
+use lib.Dec.{eqb}
+use borrow.Author.Tests.{eq-eqb, ne-eqb}
+use Rattle.sums.specs.Sums.{checked, join, add, sub, dif}
+use Rattle.sums.specs.Code.{of64}
+use Rattle.sums.proofs.Differences.{dif-eq, dif-add, dif-sub, dif-fits, dif-high, dif-low, signed-dif}
+use borrow.Author.Needs.{needs}
+use Rattle.sums.proofs.numbers.plus.Statement.{statement}
+use Rattle.sums.proofs.numbers.plus.Tie as tie
+use Rattle.sums.proofs.numbers.plus.Reads as reads
+use Rattle.sums.proofs.numbers.plus.Lts as lts
+use Rattle.sums.proofs.numbers.lowered.Reads as lowered-reads
+use Rattle.sums.proofs.numbers.raised.Reads as raised-reads
+
+-- src/numbers.rt:63:9
+raised-requires : tie.Need-raised-requires
+raised-requires c κs = search needs
+
+-- src/numbers.rt:63:9
+returns : tie.Need-returns
+returns c = ap checked (dif-eq _ _ _ _ (omega arith)) ∙ c .raised .ensures
+
+-- src/numbers.rt:65:16
+sub-lowered : tie.Need-sub-lowered
+sub-lowered c = search needs
+
+-- src/numbers.rt:65:5
+lowered-requires : tie.Need-lowered-requires
+lowered-requires c κs = search needs
+
+-- src/numbers.rt:59:1
+returns-2 : tie.Need-returns-2
+returns-2 c = ap checked (dif-eq _ _ _ _ (omega arith)) ∙ c .lowered .ensures
+
+pub plus-spec : {M : Type 1} → statement M
+plus-spec = tie.close (tie.spec raised-requires returns sub-lowered lowered-requires returns-2)

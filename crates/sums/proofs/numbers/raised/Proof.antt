@@ -1,0 +1,32 @@
+use mathlib.Core.Path.{_≡_, refl, sym, ap, _∙_}
+use Prim.Native.Nat.{ℕ, _+_, _-_, _*_, _^_}
+use native.Mathlib.Omega.{arith}
+use lib.Dec.{eqb}
+use borrow.Author.Tests.{eq-eqb, ne-eqb}
+use Rattle.sums.specs.Sums.{checked, join, add, sub, dif}
+use Rattle.sums.specs.Code.{of64}
+use Rattle.sums.proofs.Differences.{dif-eq, dif-add, dif-sub, dif-fits, dif-high, dif-low, signed-dif}
+use borrow.Author.Needs.{needs}
+use Rattle.sums.proofs.numbers.raised.Statement.{statement}
+use Rattle.sums.proofs.numbers.raised.Tie as tie
+use Rattle.sums.proofs.numbers.raised.Reads as reads
+use Rattle.sums.proofs.numbers.raised.Lts as lts
+
+-- src/numbers.rt:17:13
+sub-if1 : tie.Need-sub-if1
+sub-if1 c = search needs
+
+-- src/numbers.rt:18:25
+add-t5 : tie.Need-add-t5
+add-t5 c = search needs
+
+-- src/numbers.rt:18:9
+returns : tie.Need-returns
+returns c = dif-fits _ _ _ refl (omega arith)
+
+-- src/numbers.rt:14:1
+returns-2 : tie.Need-returns-2
+returns-2 c = dif-high _ _ (omega arith)
+
+pub raised-spec : {M : Type 1} → statement M
+raised-spec = tie.close (tie.spec sub-if1 add-t5 returns returns-2)
