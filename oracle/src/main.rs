@@ -11,10 +11,12 @@ use oracle::inside::{self, InsideComparer};
 use oracle::interpreter::Interpreter;
 use oracle::machine::Mode;
 use oracle::numbers;
+use oracle::parallel::by_all_processors;
 use oracle::programs::printed;
 use oracle::random::Random;
 use oracle::subject::{subject, Subject};
 use oracle::sweep::{Share, LARGE, SMALL};
+use oracle::text_calls;
 use oracle::vectors;
 use oracle::words::{self, keeps_laws};
 
@@ -29,6 +31,8 @@ const USAGE: &str = "usage: oracle COMMAND
   words [COUNT [SEED]]    compares all 2^32 words, or COUNT random ones, and tests the laws of words
   functions [COUNT [SEED]] compares each function of numbers on corners and on COUNT drawn arguments
   inside COUNT [SEED]     compares COUNT generated calls of what the host call does not reach
+  text COUNT [SEED]       compares the enumerated texts and COUNT generated calls of assembler and printer
+  printed [COUNT [SEED]]  compares the prints of all 2^32 words, or of COUNT random ones, and what they assemble to
   vectors FILE            writes the fixed list of the oracle's answers
   lines FILE COUNT [SEED] writes COUNT generated calls in the same form
   replay FILE             replays such a list through the subject
@@ -46,6 +50,8 @@ fn main() -> ExitCode {
         Some("words") => words(number(1), seed(2)),
         Some("functions") => functions(number(1).unwrap_or(10_000), seed(2)),
         Some("inside") => inside(number(1).unwrap_or(100_000), seed(2)),
+        Some("text") => text_calls::texts(number(1).unwrap_or(100_000), seed(2)),
+        Some("printed") => text_calls::printed(number(1), seed(2)),
         Some("vectors") if arguments.len() == 2 => write_lines(&arguments[1], vectors::file()),
         Some("lines") if arguments.len() >= 3 => {
             write_lines(&arguments[1], vectors::generated_file(number(2).unwrap_or(0), seed(3)))
@@ -149,15 +155,9 @@ fn words(count: Option<u64>, seed: u64) -> bool {
     found.is_none()
 }
 
-/// The least word that is wrong, sought by as many threads as there are processors.
+/// The least word that is wrong.
 fn all_words(wrong: &(impl Fn(u32) -> bool + Sync)) -> Option<u32> {
-    let threads = std::thread::available_parallelism().map_or(1, usize::from) as u64;
-    let part = |index: u64| (index * (1 << 32) / threads..(index + 1) * (1 << 32) / threads).map(|word| word as u32);
-    std::thread::scope(|scope| {
-        let handles: Vec<_> =
-            (0..threads).map(|index| scope.spawn(move || part(index).find(|&word| wrong(word)))).collect();
-        handles.into_iter().filter_map(|handle| handle.join().expect("a comparison does not panic")).next()
-    })
+    by_all_processors(|mut words| words.find(|&word| wrong(word))).into_iter().flatten().next()
 }
 
 fn functions(count: u64, seed: u64) -> bool {

@@ -1,4 +1,4 @@
-//! Document 01, "Stops and refusals".
+//! Document 01, "Stops and refusals", and what document 02 adds to it.
 
 use zkir_runtime::error::RuntimeError;
 
@@ -14,6 +14,7 @@ pub enum Refusal {
     PcBeyond { pc: u64 },
     ListFull { pc: u64 },
     Malformed,
+    BadLine { line: u64 },
 }
 
 impl Refusal {
@@ -28,6 +29,7 @@ impl Refusal {
             Refusal::PcBeyond { .. } => 7,
             Refusal::ListFull { .. } => 8,
             Refusal::Malformed => 9,
+            Refusal::BadLine { .. } => 10,
         }
     }
 
@@ -40,6 +42,7 @@ impl Refusal {
             Refusal::Beyond { address } | Refusal::Misaligned { address } => address,
             Refusal::Opcode { word } | Refusal::Operands { word } => word as u64,
             Refusal::Malformed => 0,
+            Refusal::BadLine { line } => line,
         }
     }
 }

@@ -4,6 +4,7 @@
 mod clock;
 mod row;
 mod shared;
+mod text;
 mod workloads;
 
 use crate::interpreter::Interpreter;
@@ -11,6 +12,7 @@ use crate::subject::{Oracle, Subject};
 
 pub use row::{rows, Pace, Row};
 pub use shared::Shared;
+pub use text::{print_text_table, text_rows, TextEffort, TextRow, TextTimes};
 
 /// Instructions after which all subjects must have left the same, before anything is measured.
 const AGREEMENT: u64 = 50_000;
