@@ -1,9 +1,9 @@
-// Finds or makes the archives that export the run and the step, copies them into OUT_DIR, and links them.
+// Finds or makes the archives that export the run, the step and the calls over texts, copies them into OUT_DIR, and links them.
 //
-// ZKIR_ARCHIVE names the run's, ZKIR_STEP_ARCHIVE the step's; a relative path counts from the folder above this package.
-// One that isn't named is taken from the folder `lib` there, which a distribution has (tools/dist). In the repository
-// tools/archives makes it, in the repository's target/ and not in OUT_DIR: a proof takes long, and its archive serves every
-// profile. It is made again only where a source of it has changed.
+// ZKIR_ARCHIVE names the run's, ZKIR_STEP_ARCHIVE the step's, ZKIR_TEXT_ARCHIVE the texts'; a relative path counts from the
+// folder above this package. One that isn't named is taken from the folder `lib` there, which a distribution has
+// (tools/dist). In the repository tools/archives makes it, in the repository's target/ and not in OUT_DIR: a proof takes
+// long, and its archive serves every profile. It is made again only where a source of it has changed.
 
 use std::env;
 use std::fs;
@@ -11,72 +11,78 @@ use std::path::{Path, PathBuf};
 use std::process::{exit, Command};
 use std::time::Instant;
 
-/// A call, the crate whose archive exports it, and the variable that may name the archive.
-struct Call {
+/// An archive: its name in a distribution, the calls that it exports, the crate that it is made from, and the variable
+/// that may name it.
+struct Archive {
     name: &'static str,
+    exports: &'static str,
     of: &'static str,
     variable: &'static str,
 }
 
-const RUN: Call = Call { name: "zkir_run", of: "host", variable: "ZKIR_ARCHIVE" };
-const STEP: Call = Call { name: "zkir_step", of: "lent", variable: "ZKIR_STEP_ARCHIVE" };
+const RUN: Archive = Archive { name: "zkir_run", exports: "zkir_run", of: "host", variable: "ZKIR_ARCHIVE" };
+const STEP: Archive = Archive { name: "zkir_step", exports: "zkir_step", of: "lent", variable: "ZKIR_STEP_ARCHIVE" };
+const TEXT: Archive =
+    Archive { name: "zkir_text", exports: "zkir_assemble and zkir_print", of: "text", variable: "ZKIR_TEXT_ARCHIVE" };
 
 fn main() {
     println!("cargo:rerun-if-changed=build.rs");
     let above = Path::new(&variable("CARGO_MANIFEST_DIR")).join("..");
-    link(&RUN, &archive(&RUN, &above));
-    if env::var_os("CARGO_FEATURE_STEP").is_some() {
-        link(&STEP, &archive(&STEP, &above));
+    link(&RUN, &found(&RUN, &above));
+    for (feature, archive) in [("CARGO_FEATURE_STEP", &STEP), ("CARGO_FEATURE_TEXT", &TEXT)] {
+        if env::var_os(feature).is_some() {
+            link(archive, &found(archive, &above));
+        }
     }
 }
 
-fn archive(call: &Call, above: &Path) -> PathBuf {
-    println!("cargo:rerun-if-env-changed={}", call.variable);
-    let delivered = above.join("lib").join(format!("lib{}.a", call.name));
-    if let Some(named) = env::var_os(call.variable).filter(|named| !named.is_empty()) {
-        existing(call, above.join(named))
+fn found(archive: &Archive, above: &Path) -> PathBuf {
+    println!("cargo:rerun-if-env-changed={}", archive.variable);
+    let delivered = above.join("lib").join(format!("lib{}.a", archive.name));
+    if let Some(named) = env::var_os(archive.variable).filter(|named| !named.is_empty()) {
+        existing(archive, above.join(named))
     } else if delivered.is_file() {
-        refuse_other_processors(call);
-        existing(call, delivered)
+        refuse_other_processors(archive);
+        existing(archive, delivered)
     } else {
-        made(call, above)
+        made(archive, above)
     }
 }
 
-fn existing(call: &Call, archive: PathBuf) -> PathBuf {
-    if !archive.is_file() {
-        fail(&format!("{}: no file {}", call.variable, archive.display()));
+fn existing(archive: &Archive, path: PathBuf) -> PathBuf {
+    if !path.is_file() {
+        fail(&format!("{}: no file {}", archive.variable, path.display()));
     }
-    println!("cargo:rerun-if-changed={}", archive.display());
-    archive
+    println!("cargo:rerun-if-changed={}", path.display());
+    path
 }
 
-fn refuse_other_processors(call: &Call) {
+fn refuse_other_processors(archive: &Archive) {
     let (os, processor) = (variable("CARGO_CFG_TARGET_OS"), variable("CARGO_CFG_TARGET_ARCH"));
     if (os.as_str(), processor.as_str()) != ("linux", "x86_64") {
-        fail(&format!("lib/lib{}.a is for x86-64 Linux, not for {os} on {processor}", call.name));
+        fail(&format!("lib/lib{}.a is for x86-64 Linux, not for {os} on {processor}", archive.name));
     }
 }
 
-fn made(call: &Call, above: &Path) -> PathBuf {
+fn made(archive: &Archive, above: &Path) -> PathBuf {
     let tool = above.join("tools/archives");
     if !tool.is_file() {
         fail(&format!(
             "there is no archive: set {} to one that exports {}, or take a distribution or the repository",
-            call.variable, call.name
+            archive.variable, archive.exports
         ));
     }
-    let folder = folder_of_made(call);
-    for source in said_by(Command::new(&tool).args(["--sources", call.of])).lines() {
+    let folder = folder_of_made(archive);
+    for source in said_by(Command::new(&tool).args(["--sources", archive.of])).lines() {
         println!("cargo:rerun-if-changed={}", above.join(source).display());
     }
-    if !Command::new(&tool).args(["--is-made", call.of]).status().map_or(false, |status| status.success()) {
-        make(call, &tool);
+    if !Command::new(&tool).args(["--is-made", archive.of]).status().map_or(false, |status| status.success()) {
+        make(archive, &tool);
     }
-    above.join(folder).join(format!("lib{}.a", call.of))
+    above.join(folder).join(format!("lib{}.a", archive.of))
 }
 
-fn folder_of_made(call: &Call) -> &'static str {
+fn folder_of_made(archive: &Archive) -> &'static str {
     let (os, processor, host) = (variable("CARGO_CFG_TARGET_OS"), variable("CARGO_CFG_TARGET_ARCH"), variable("HOST"));
     match (os.as_str(), processor.as_str()) {
         ("linux", "x86_64") => "target/staticlib",
@@ -84,28 +90,28 @@ fn folder_of_made(call: &Call) -> &'static str {
             println!(
                 "cargo:warning=target/native/lib{}.a is linked, for testing: the proved LLVM module, compiled for \
                  aarch64; what is delivered is x86-64",
-                call.of
+                archive.of
             );
             "target/native"
         }
         _ => fail(&format!(
             "no archive can be made for {os} on {processor} here ({host}): rt makes them for x86-64 Linux; \
              set {} to one that exports {}",
-            call.variable, call.name
+            archive.variable, archive.exports
         )),
     }
 }
 
-fn make(call: &Call, tool: &Path) {
+fn make(archive: &Archive, tool: &Path) {
     tell(&format!(
         "proving the crate {} for its archive: about half a minute, some minutes the first time; {} can name an archive",
-        call.of, call.variable
+        archive.of, archive.variable
     ));
     let started = Instant::now();
-    said_by(Command::new(tool).arg(call.of));
+    said_by(Command::new(tool).arg(archive.of));
     println!(
         "cargo:warning=the crate {} was proved for its archive, in {} s; that is done again where a source has changed",
-        call.of,
+        archive.of,
         started.elapsed().as_secs()
     );
 }
@@ -129,14 +135,14 @@ fn said_by(command: &mut Command) -> String {
 }
 
 // The package's library then holds the archive's code: its users link nothing. The copy is whole or not there.
-fn link(call: &Call, archive: &Path) {
+fn link(archive: &Archive, path: &Path) {
     let folder = PathBuf::from(variable("OUT_DIR"));
-    let (whole, copy) = (folder.join(format!("lib{}.a", call.name)), folder.join("copy"));
-    if let Err(error) = fs::copy(archive, &copy).and_then(|_| fs::rename(&copy, &whole)) {
-        fail(&format!("{} cannot be copied to {} ({error})", archive.display(), whole.display()));
+    let (whole, copy) = (folder.join(format!("lib{}.a", archive.name)), folder.join("copy"));
+    if let Err(error) = fs::copy(path, &copy).and_then(|_| fs::rename(&copy, &whole)) {
+        fail(&format!("{} cannot be copied to {} ({error})", path.display(), whole.display()));
     }
     println!("cargo:rustc-link-search=native={}", folder.display());
-    println!("cargo:rustc-link-lib=static={}", call.name);
+    println!("cargo:rustc-link-lib=static={}", archive.name);
 }
 
 fn variable(name: &str) -> String {

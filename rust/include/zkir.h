@@ -1,8 +1,10 @@
-/* The host's calls of the proved zkIR core, a run and a single step, and what a host needs around them.
+/* The host's calls of the proved zkIR core, a run, a single step, an assembler and a printer, and what a host needs around
+ * them.
  *
- * The run is in libzkir_run.a, the step in libzkir_step.a, as a distribution has them (tools/dist); in the repository
- * `rt staticlib host` and `rt staticlib lent` make them as libhost.a and liblent.a. An archive calls nothing but memcpy, or
- * another of what a compiler calls by itself: memmove, memset, memcmp. It needs no heap, no file and no thread.
+ * The run is in libzkir_run.a, the step in libzkir_step.a, assembler and printer in libzkir_text.a, as a distribution has them
+ * (tools/dist); in the repository `rt staticlib host`, `rt staticlib lent` and `rt staticlib text` make them as libhost.a,
+ * liblent.a and libtext.a. An archive calls nothing but memcpy, or another of what a compiler calls by itself: memmove,
+ * memset, memcmp. It needs no heap, no file and no thread.
  *
  * examples/host.c is a whole host. */
 #ifndef ZKIR_H
@@ -45,6 +47,7 @@ extern "C" {
 #define ZKIR_PC_BEYOND 7     /* pc, whose four bytes reach beyond memory */
 #define ZKIR_LIST_FULL 8     /* pc; zkir_run lends no list and never answers it */
 #define ZKIR_MALFORMED 9     /* an argument is malformed */
+#define ZKIR_BAD_LINE 10     /* line, the first bad one of a text; no run or step answers it */
 #define ZKIR_EBREAK 64       /* the state is halted, its pc at the Ebreak */
 #define ZKIR_ECALL 65        /* the pc is behind the Ecall */
 
@@ -135,6 +138,7 @@ static inline const char *zkir_words(uint64_t code) {
     case ZKIR_PC_BEYOND: return "the instruction reaches beyond memory";
     case ZKIR_LIST_FULL: return "the instruction needs a check, and the list of pending checks is full";
     case ZKIR_MALFORMED: return "an argument is malformed";
+    case ZKIR_BAD_LINE: return "the text has a bad line";
     case ZKIR_EBREAK: return "the program stopped by itself";
     case ZKIR_ECALL: return "the program asks its host for a service";
     default: return "no code";
@@ -185,6 +189,56 @@ struct zkir_stepped {
  * calls on different states may run at the same time. */
 struct zkir_stepped zkir_step(struct zkir_lent *state, uint8_t *memory, size_t memory_length, struct zkir_pending *list,
                               size_t list_length, size_t count, uint64_t mode);
+
+/* ---- Programs as texts, in the language of docs/LANGUAGE.md. */
+
+/* What these calls answer: code 0 and the bytes written; or a refusal, with its particular, and the length 0. */
+struct zkir_told {
+    uint64_t code;
+    uint64_t particular;
+    uint64_t length;
+};
+
+/* Room that always suffices: for the words, 4 bytes a line; for labels, 3 numbers a colon; for a print, 22 bytes a word, which
+ * are those of "Addi R15, R15, -65536" and its LF. */
+#define ZKIR_WORD_BYTES 4
+#define ZKIR_LABEL_NUMBERS 3
+#define ZKIR_PRINTED_BYTES 22
+
+/* Puts the words of the text, four bytes each, into the front of `words`; the bytes behind them stay. Lines are counted from 1.
+ *
+ * `labels` is room for the text's labels, and is all zeros afterwards, whatever the answer. Refused are, in this order:
+ * too few `labels` (9), a text with a bad line (10), too few `words` (9). Then `words` stays as it was. With twice the room
+ * that labels need they are found sooner.
+ *
+ * What is lent does not overlap, and no pointer is null, even if its length is 0. Nothing is kept after the call. */
+struct zkir_told zkir_assemble(const uint8_t *text, size_t text_length, uint8_t *words, size_t words_length,
+                               uint64_t *labels, size_t labels_length);
+
+/* Puts the text of the words, a line for each, into the front of `text`; the bytes behind it stay. Assembled, it gives these
+ * words again.
+ *
+ * Refused are, in this order: a length of `words` that is no multiple of 4 (9), a word that is no instruction (4 or 5, with the
+ * first such word), too short a `text` (9). Then `text` stays as it was.
+ *
+ * What is lent does not overlap, and no pointer is null, even if its length is 0. Nothing is kept after the call. */
+struct zkir_told zkir_print(const uint8_t *words, size_t words_length, uint8_t *text, size_t text_length);
+
+static inline size_t zkir_count(const uint8_t *text, size_t text_length, uint8_t byte) {
+    size_t count = 0;
+    for (size_t i = 0; i < text_length; i++)
+        count += text[i] == byte;
+    return count;
+}
+
+/* Bytes of `words`, and numbers of `labels`, that suffice for the text. */
+static inline size_t zkir_words_needed(const uint8_t *text, size_t text_length) {
+    return ZKIR_WORD_BYTES * (zkir_count(text, text_length, '\n') + 1);
+}
+
+static inline size_t zkir_labels_needed(const uint8_t *text, size_t text_length) {
+    return ZKIR_LABEL_NUMBERS * zkir_count(text, text_length, ':');
+}
 
 #ifdef __cplusplus
 }

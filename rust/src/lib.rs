@@ -1,7 +1,8 @@
-//! The proved zkIR core for Rust hosts: the state of the machine, its run with fuel over lent memory, and single steps.
+//! The proved zkIR core for Rust hosts: the state of the machine, its run with fuel over lent memory, single steps, and
+//! programs as texts.
 //!
-//! Run and step are Rattle, proved, and linked as static libraries. Here is what makes them comfortable in Rust: types
-//! that cannot be malformed, and answers that say what happened.
+//! Run, step, assembler and printer are Rattle, proved, and linked as static libraries. Here is what makes them comfortable
+//! in Rust: types that cannot be malformed, and answers that say what happened.
 //!
 //! ```
 //! use yokeglimmer::{run, Mode, Register, State, Stop};
@@ -47,16 +48,46 @@
 //! assert_eq!(serve(&mut state, &mut memory), Ok(3));
 //! assert_eq!(state.value(2), 43);
 //! ```
+//!
+//! Programs can be typed:
+//!
+//! ```
+//! use yokeglimmer::{assemble, print, run, Mode, State};
+//!
+//! let words = assemble("Addi R1, R0, 10\nagain:\nAdd R2, R2, R1\nAddi R1, R1, -1\nBne R1, R0, again\nEbreak\n")?;
+//! let mut memory: Vec<u8> = words.iter().flat_map(|word| word.to_le_bytes()).collect();
+//! let mut state = State::new(0);
+//! run(&mut state, &mut memory, 1_000, Mode::Plain).or_refused()?;
+//! assert_eq!(state.value(2), 55);
+//! assert_eq!(print(&words[3..])?, "Bne R1, R0, -8\nEbreak\n");
+//!
+//! // What is wrong with a text is said in words.
+//! let bad = assemble("Addi R1, R0, 10\nEnd\n").unwrap_err();
+//! assert_eq!(bad.to_string(), "line 2: End: there is no instruction of this name (column 1: End)");
+//! # Ok::<(), Box<dyn std::error::Error>>(())
+//! ```
 #![deny(missing_docs)]
 
+#[cfg(feature = "text")]
+mod assemble;
 mod bytes;
 #[cfg(feature = "step")]
 mod checks;
+#[cfg(feature = "text")]
+mod forms;
 mod layout;
+#[cfg(feature = "text")]
+mod lines;
+#[cfg(feature = "text")]
+mod mistake;
 mod mode;
 #[cfg(doctest)]
 mod must_not_compile;
+#[cfg(feature = "text")]
+mod print;
 pub mod raw;
+#[cfg(feature = "text")]
+mod reader;
 #[cfg(feature = "step")]
 mod record;
 mod rule;
@@ -64,11 +95,19 @@ mod state;
 #[cfg(feature = "step")]
 mod step;
 mod stop;
+#[cfg(feature = "text")]
+mod told;
 
+#[cfg(feature = "text")]
+pub use assemble::{assemble, BadLine};
 #[cfg(feature = "step")]
 pub use checks::Checks;
 pub use layout::{ANSWER_BYTES, REGISTERS, STATE_BYTES};
+#[cfg(feature = "text")]
+pub use mistake::Mistake;
 pub use mode::Mode;
+#[cfg(feature = "text")]
+pub use print::{print, BadWord, PRINTED_BYTES};
 #[cfg(feature = "step")]
 pub use record::Pending;
 pub use rule::{BrokenRule, MalformedBytes};

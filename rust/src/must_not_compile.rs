@@ -32,7 +32,7 @@ pub struct Dropped;
 ///     match refusal {
 ///         DivisorZero { .. } => true,
 ///         Beyond { .. } | Misaligned { .. } | BadOpcode { .. } | UnusedBits { .. } => false,
-///         PcMisaligned { .. } | PcBeyond { .. } | ListFull { .. } | Malformed => false,
+///         PcMisaligned { .. } | PcBeyond { .. } | ListFull { .. } | Malformed | BadLine { .. } => false,
 ///     }
 /// }
 /// ```

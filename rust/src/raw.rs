@@ -3,6 +3,8 @@
 
 #[cfg(feature = "step")]
 pub use crate::record::{Lent, Pending, StepAnswer};
+#[cfg(feature = "text")]
+pub use crate::told::Told;
 
 /// As Rattle's `extern "C"` has them: a slice is a pointer and a length, a record that is lent is a pointer.
 mod archive {
@@ -28,6 +30,19 @@ mod archive {
             count: usize,
             mode: u64,
         ) -> super::StepAnswer;
+
+        #[cfg(feature = "text")]
+        pub fn zkir_assemble(
+            text: *const u8,
+            text_length: usize,
+            words: *mut u8,
+            words_length: usize,
+            labels: *mut u64,
+            labels_length: usize,
+        ) -> super::Told;
+
+        #[cfg(feature = "text")]
+        pub fn zkir_print(words: *const u8, words_length: usize, text: *mut u8, text_length: usize) -> super::Told;
     }
 }
 
@@ -80,4 +95,58 @@ pub fn step(state: &mut Lent, memory: &mut [u8], list: &mut [Pending], count: us
     // SAFETY: the call is proved for any record and any two slices that are lent apart from each other, empty ones too,
     // and keeps none of them; `&mut` lends them so.
     unsafe { archive::zkir_step(state, memory.as_mut_ptr(), memory.len(), list.as_mut_ptr(), list.len(), count, mode) }
+}
+
+/// `zkir_assemble`: the words of the text, four bytes each, into the front of `words`; the bytes behind them stay. `labels`
+/// is room for the text's labels, three numbers each, and is handed back all zeros.
+///
+/// Every argument is allowed. Refused are, in this order: too short a `labels` (9), a text with a bad line (10, with the
+/// first one's number), too short a `words` (9); then `words` stays as it was. Three numbers for each colon and four bytes
+/// for each line always suffice.
+///
+/// ```
+/// use yokeglimmer::raw;
+///
+/// let (mut words, mut labels) = ([0xff; 10], [0; 3]);
+/// let told = raw::assemble(b"loop:\nJal R0, loop\nEbreak\n", &mut words, &mut labels);
+/// assert_eq!(told, raw::Told { code: 0, particular: 0, length: 8 });
+/// assert_eq!(words, [0x2f, 0, 0, 0, 0x32, 0, 0, 0, 0xff, 0xff]);
+/// assert_eq!(raw::assemble(b"loop:\nloop:\n", &mut words, &mut [0; 6]).particular, 2); // defined already
+/// ```
+#[cfg(feature = "text")]
+pub fn assemble(text: &[u8], words: &mut [u8], labels: &mut [u64]) -> Told {
+    // SAFETY: the call is proved for any three slices that are lent apart from each other, empty ones too, keeps none of
+    // them and doesn't write to the first; `&` and `&mut` lend them so.
+    unsafe {
+        archive::zkir_assemble(
+            text.as_ptr(),
+            text.len(),
+            words.as_mut_ptr(),
+            words.len(),
+            labels.as_mut_ptr(),
+            labels.len(),
+        )
+    }
+}
+
+/// `zkir_print`: the text of the words, a line for each, into the front of `text`; the bytes behind it stay.
+///
+/// Every argument is allowed. Refused are, in this order: `words` of a length that is no multiple of 4 (9), a word that is
+/// no instruction (4 or 5, with the first such word), too short a `text` (9); then `text` stays as it was.
+/// [`PRINTED_BYTES`](crate::PRINTED_BYTES) for each word always suffice.
+///
+/// ```
+/// use yokeglimmer::raw;
+///
+/// let mut text = [0; 20];
+/// let told = raw::print(&[0x27, 0x19, 0x04, 0x00], &mut text);
+/// assert_eq!(told, raw::Told { code: 0, particular: 0, length: 13 });
+/// assert_eq!(&text[..13], b"Sw R2, R3, 8\n");
+/// assert_eq!(raw::print(&[0x33, 0, 0, 0], &mut text).code, 4); // there is no opcode 51
+/// ```
+#[cfg(feature = "text")]
+pub fn print(words: &[u8], text: &mut [u8]) -> Told {
+    // SAFETY: the call is proved for any two slices that are lent apart from each other, empty ones too, keeps none of them
+    // and doesn't write to the first; `&` and `&mut` lend them so.
+    unsafe { archive::zkir_print(words.as_ptr(), words.len(), text.as_mut_ptr(), text.len()) }
 }

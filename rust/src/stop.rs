@@ -36,10 +36,12 @@ pub enum Refusal {
     ListFull { pc: u64 },
     /// An argument is malformed. From [`run`](crate::run) or a step: it is plain and a register is accumulated.
     Malformed,
+    /// The text has a bad line, the first of which is named, counted from 1. No step or run answers this.
+    BadLine { line: u64 },
 }
 
 impl Refusal {
-    /// 1 to 9.
+    /// 1 to 10.
     ///
     /// ```
     /// assert_eq!(yokeglimmer::Refusal::Misaligned { address: 7 }.number(), 3);
@@ -55,10 +57,11 @@ impl Refusal {
             Refusal::PcBeyond { .. } => 7,
             Refusal::ListFull { .. } => 8,
             Refusal::Malformed => 9,
+            Refusal::BadLine { .. } => 10,
         }
     }
 
-    /// The pc, the address or the word that the refusal names; 0 where it names none.
+    /// The pc, the address, the word or the line that the refusal names; 0 where it names none.
     ///
     /// ```
     /// assert_eq!(yokeglimmer::Refusal::Misaligned { address: 7 }.particular(), 7);
@@ -72,10 +75,12 @@ impl Refusal {
             Refusal::Beyond { address } | Refusal::Misaligned { address } => address,
             Refusal::BadOpcode { word } | Refusal::UnusedBits { word } => word.into(),
             Refusal::Malformed => 0,
+            Refusal::BadLine { line } => line,
         }
     }
 
-    fn of(number: u64, particular: u64) -> Option<Refusal> {
+    /// The refusal of a word, a step or a run, by its number and particular.
+    pub(crate) fn of(number: u64, particular: u64) -> Option<Refusal> {
         let [pc, address] = [particular; 2];
         let word = u32::try_from(particular);
         match number {
@@ -114,6 +119,7 @@ impl fmt::Display for Refusal {
                 write!(f, "the instruction needs a check, and the list of pending checks is full (pc {pc})")
             }
             Refusal::Malformed => write!(f, "an argument is malformed"),
+            Refusal::BadLine { line } => write!(f, "the text has a bad line (line {line})"),
         }
     }
 }

@@ -1,8 +1,8 @@
 #!/usr/bin/env bash
-# build.sh RUN STEP: how a host builds the crate, with these two archives: in a workspace of its own; in a copy of the repository,
-# where a stand-in for tools/native hands the archives out and counts how often it is asked. Called by rust/check.
+# build.sh RUN STEP TEXT: how a host builds the crate, with these three archives: in a workspace of its own; in a copy of the
+# repository, where a stand-in for tools/native hands the archives out and counts how often it is asked. Called by rust/check.
 set -eu
-run=$(readlink -f "$1") step=$(readlink -f "$2")
+run=$(readlink -f "$1") step=$(readlink -f "$2") text=$(readlink -f "$3")
 rust=$(dirname "$(dirname "$(readlink -f "$0")")")
 work=$(mktemp -d)
 unset CARGO_TARGET_DIR
@@ -36,12 +36,13 @@ yokeglimmer = { path = "../vendored/rust" }' >host/Cargo.toml
 fn main() -> Result<(), Box<dyn std::error::Error>> {
     let mode = yokeglimmer::Mode::try_from(0)?;
     let mut state = yokeglimmer::State::try_from([0; yokeglimmer::STATE_BYTES])?;
-    let answer = yokeglimmer::run(&mut state, &mut [0x32, 0, 0, 0], 10, mode).or_refused()?;
+    let mut memory: Vec<u8> = yokeglimmer::assemble("Ebreak")?.iter().flat_map(|word| word.to_le_bytes()).collect();
+    let answer = yokeglimmer::run(&mut state, &mut memory, 10, mode).or_refused()?;
     println!("{mode}: {answer}");
     Ok(())
 }
 END
-    said=$(ZKIR_ARCHIVE=$run ZKIR_STEP_ARCHIVE=$step cargo run --offline --quiet) || fail "a host's workspace around the crate"
+    said=$(ZKIR_ARCHIVE=$run ZKIR_STEP_ARCHIVE=$step ZKIR_TEXT_ARCHIVE=$text cargo run --offline --quiet) || fail "a host's workspace around the crate"
     [ "$said" = 'plain: ebreak: the program stopped by itself; steps: 1' ] || fail "a host in a workspace says: $said"
 }
 
@@ -52,7 +53,7 @@ echo "\$1" >>"$work/asked"
 cd "$work/repository"
 mkdir -p target/native target/staticlib
 [ ! -f "$work/slow" ] || { echo part >target/native/lib\$1.a && echo part >target/staticlib/lib\$1.a && sleep 60; }
-case \$1 in host) from=$run ;; *) from=$step ;; esac
+case \$1 in host) from=$run ;; lent) from=$step ;; *) from=$text ;; esac
 cp "\$from" target/native/lib\$1.a && cp "\$from" target/staticlib/lib\$1.a
 END
     touch -d '1 hour ago' "$work/repository/tools/native"
@@ -72,17 +73,17 @@ in_the_repository() {
     cp -r "$rust/../crates" "$rust/../crates.txt" "$rust/../tools" "$work/repository"
     find "$work/repository" -exec touch -d '1 hour ago' {} +
     stand_in
-    expect_asked 2 "the first time"
+    expect_asked 3 "the first time"
     grep -q 'warning.*the crate host was proved for its archive, in [0-9]* s' "$work/said" || fail "cargo build does not say that it proves"
     find "$work/repository/rust/target" -path '*/out/libzkir_run.a' | grep -q . || fail "the archive is not copied to OUT_DIR"
-    expect_asked 2 "with nothing changed"
+    expect_asked 3 "with nothing changed"
     touch "$work/repository/crates/host/edits" "$work/repository"/crates/*/edits/*.edit
-    expect_asked 2 "with edits changed"
+    expect_asked 3 "with edits changed"
     ! grep -q Compiling "$work/said" || fail "an edit makes cargo build again"
     touch "$work/repository/crates/promises/src/lib.rt"
-    expect_asked 2 "with a crate changed that the archives are not made from"
+    expect_asked 3 "with a crate changed that the archives are not made from"
     touch "$work/repository/crates/memory/src/lib.rt"
-    expect_asked 4 "with a source changed"
+    expect_asked 6 "with a source changed"
 }
 
 at_a_terminal() {

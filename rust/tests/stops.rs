@@ -2,7 +2,7 @@
 
 use yokeglimmer::{run, Mode, Refusal, Refused, State, Stop};
 
-const EVERY: [Stop; 12] = [
+const EVERY: [Stop; 13] = [
     Stop::Fuel,
     Stop::Refused(Refusal::DivisorZero { pc: 8 }),
     Stop::Refused(Refusal::Beyond { address: 64 }),
@@ -13,6 +13,7 @@ const EVERY: [Stop; 12] = [
     Stop::Refused(Refusal::PcBeyond { pc: 64 }),
     Stop::Refused(Refusal::ListFull { pc: 12 }),
     Stop::Refused(Refusal::Malformed),
+    Stop::Refused(Refusal::BadLine { line: 3 }),
     Stop::Ebreak,
     Stop::Ecall,
 ];

@@ -1,21 +1,18 @@
-//! Prints a zkIR program's run step by step: pc, word, the instruction in words, and what changed, registers with their limbs
-//! where they have them, and bytes of memory.
+//! Prints a zkIR program's run step by step: pc, word, the instruction, and what changed, registers with their limbs where
+//! they have them, and bytes of memory.
 //!
 //!     cargo run --example trace -- [plain | deferred | both] [STEPS] FILE
 //!
 //! FILE holds the program's bytes, at most 65,536, which become the start of that much memory; at most STEPS steps are
 //! taken, 1,000,000 without it. Of both modes the changes stand side by side, and the first step is named after which
-//! a register's limbs differ and its value does not. `tools/run --trace` makes the bytes of a file of words.
-
-mod words;
+//! a register's limbs differ and its value does not. `tools/run --trace` makes the bytes of a text or of a file of words.
 
 use std::fmt;
 use std::fs::File;
 use std::io::{self, BufWriter, Read, Write};
 use std::process::ExitCode;
 
-use words::in_words;
-use yokeglimmer::{step, Checks, Mode, Register, State, Stepped, REGISTERS};
+use yokeglimmer::{print, step, Checks, Mode, Register, State, Stepped, REGISTERS};
 
 const MEMORY_BYTES: usize = 65_536;
 const STEPS: u64 = 1_000_000;
@@ -178,9 +175,13 @@ impl Run {
 impl fmt::Display for Instruction {
     fn fmt(&self, f: &mut fmt::Formatter<'_>) -> fmt::Result {
         let (word, text) = match self.word {
-            Some(word) => (format!("{word:08X}"), in_words(word)),
+            Some(word) => (format!("{word:08X}"), text_of(word)),
             None => ("-".to_string(), "nothing, beyond memory".to_string()),
         };
         write!(f, "pc {:<5}  {word:<8}  {text:<22}", self.pc)
     }
+}
+
+fn text_of(word: u32) -> String {
+    print(&[word]).map_or("no instruction".to_string(), |text| text.trim_end().to_string())
 }

@@ -55,10 +55,17 @@ static void both_forms_of_a_state(void) {
     check(zkir_lent_value(&lent, 3) == 1048575u + ((uint64_t)1022 << 20), "R3 of a record", "value");
 }
 
+static void room_for_texts(void) {
+    static const uint8_t text[] = "a: b:\n\nc:\n";
+    check(zkir_words_needed(text, 10) == 16 && zkir_words_needed(text, 0) == 4, "a text", "bytes for its words");
+    check(zkir_labels_needed(text, 10) == 9 && zkir_labels_needed(text, 1) == 0, "a text", "numbers for its labels");
+}
+
 int main(void) {
     numbers();
     fresh_state();
     registers();
     both_forms_of_a_state();
+    room_for_texts();
     return report();
 }

@@ -1,9 +1,16 @@
 //! Words of the machine, built from document 01's fields, and states and programs for the tests.
 #![allow(dead_code)] // each test file uses some of it
 
+use std::path::PathBuf;
+
 use yokeglimmer::{Mode, Refusal, Register, State};
 
 pub const MODES: [Mode; 2] = [Mode::Plain, Mode::Deferred];
+
+/// A path from the repository's root.
+pub fn repository(path: &str) -> PathBuf {
+    PathBuf::from(concat!(env!("CARGO_MANIFEST_DIR"), "/..")).join(path)
+}
 
 pub const ADD: u32 = 1;
 pub const MUL: u32 = 3;
