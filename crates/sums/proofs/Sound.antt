@@ -16,9 +16,6 @@ use Rattle.sums.specs.Reader.{Got, got, bad, given, onto, digitsRead, nu
 use Rattle.labels.proofs.Spans.{both-true, run-past, run-on, every-run, are-spaces}
 use Rattle.sums.proofs.Complete.{sum-is, goes}
 
-never : {A : Type 0} → true ≡ false → A
-never h = absurd (let z : _≡_ {A = ℕ} 0 1 = cc in omega arith)
-
 pub bad-got : {A : Type 0} {v : ℤ} {u : List ℕ} → bad ≡ got v u → A
 bad-got h = absurd (let z : _≡_ {A = ℕ} 0 1 = cc in omega arith)
 
