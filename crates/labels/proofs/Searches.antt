@@ -35,10 +35,6 @@ module _ (text table name : List ℕ) (k : ℕ) where
       → searchFrom text table name left k ≡ searchFrom text table name (left - 1) (nextOf (slotsOf table) k)
   search-on left n e h = search-turn left n ∙ simp (ne-eqb _ _ e, h)
 
-  -- what is tested of a slot, where w is the name's key
-  pub held : (w : ℕ) → w ≡ keyOf name → (t : Bool) → eqb (keyAt table k) w && eqBytes (nameAt text (placeAt table k)) name ≡ t → holds text table name k ≡ t
-  held w e t h = ap (λ (n : ℕ). eqb (keyAt table k) n && eqBytes (nameAt text (placeAt table k)) name) (sym e) ∙ h
-
 -- ---- a slot that a search ends at is one of the table's
 pub next-below : (slots k : ℕ) → k < slots → nextOf slots k < slots
 next-below slots k h = go (eqb (k + 1) slots) refl

@@ -9,8 +9,8 @@ use lib.Seq.{drop-drop}
 use lib.ListN.{length, drop, length-drop, length-append, List·getD-eq-default}
 use borrow.Author.Tests.{eq-eqb, ne-eqb, leb-true, leb-false}
 use Rattle.labels.specs.Bytes.{isSpace, isDigit, isPart, decimalFrom, headOf, eqBytes}
-use Rattle.labels.specs.Reading.{tailOf, run, past, Passed}
-use Rattle.labels.specs.Table.{keyFrom, keyOf, indexIn}
+use Rattle.labels.specs.Reading.{tailOf, run, past, nameAt, Passed}
+use Rattle.labels.specs.Table.{keyFrom, keyOf, nameFrom}
 use Rattle.labels.proofs.Spans.{head-drop, tail-drop, inside, past-stop, past-on, run-past, run-stop, run-on}
 
 pub head-end : (s : List ℕ) (n : ℕ) → length s ≤ n → 0 ≡ headOf (drop n s)
@@ -75,35 +75,104 @@ module _ (p : ℕ → Bool) (s : List ℕ) (at r : ℕ) where
         beyond = λ h. omega (arith, in-all);
       }
 
--- ---- names that are compared
-pub names-end : (s t : List ℕ) → isPart (headOf s) ≡ false → eqBytes (run isPart s) (run isPart t) ≡ not (isPart (headOf t))
-unfolding eqBytes
-names-end s t h = ap (λ (x : List ℕ). eqBytes x (run isPart t)) (run-stop isPart s h) ∙ go (isPart (headOf t)) refl
-  where
-    go : (c : Bool) → isPart (headOf t) ≡ c → eqBytes [] (run isPart t) ≡ not c
-    go true e = ap (eqBytes []) (run-on isPart t refl e)
-    go false e = ap (eqBytes []) (run-stop isPart t e)
-
-pub names-differ : (s t : List ℕ) → isPart (headOf s) ≡ true → (headOf s ≡ headOf t → ⊥) → eqBytes (run isPart s) (run isPart t) ≡ false
-unfolding eqBytes
-names-differ s t h n = ap (λ (x : List ℕ). eqBytes x (run isPart t)) (run-on isPart s refl h) ∙ go (isPart (headOf t)) refl
-  where
-    go : (c : Bool) → isPart (headOf t) ≡ c → eqBytes (headOf s ∷ run isPart (tailOf s)) (run isPart t) ≡ false
-    go true e = ap (eqBytes (headOf s ∷ run isPart (tailOf s))) (run-on isPart t refl e) ∙ ap (_&& eqBytes (run isPart (tailOf s)) (run isPart (tailOf t))) (ne-eqb (headOf s) (headOf t) n)
-    go false e = ap (eqBytes (headOf s ∷ run isPart (tailOf s))) (run-stop isPart t e)
-
-pub names-on : (s t : List ℕ) → isPart (headOf s) ≡ true → headOf s ≡ headOf t → eqBytes (run isPart s) (run isPart t) ≡ eqBytes (run isPart (tailOf s)) (run isPart (tailOf t))
-unfolding eqBytes
-names-on s t h e =
-    ap (λ (x : List ℕ). eqBytes x (run isPart t)) (run-on isPart s refl h)
-    ∙ ap (eqBytes (headOf s ∷ run isPart (tailOf s))) (run-on isPart t refl (ap isPart (sym e) ∙ h))
-    ∙ ap (_&& eqBytes (run isPart (tailOf s)) (run isPart (tailOf t))) (eq-eqb (headOf s) (headOf t) e)
-
--- ---- a name's key
-pub key-on : (s : List ℕ) (v n : ℕ) → isPart (headOf (drop n s)) ≡ true → keyFrom v (run isPart (drop n s)) ≡ keyFrom (v % 2 ^ 56 * 256 + headOf (drop n s)) (run isPart (drop (n + 1) s))
+-- ---- a name that is read
+key-on : (s : List ℕ) (v n : ℕ) → isPart (headOf (drop n s)) ≡ true → keyFrom v (nameAt s n) ≡ keyFrom (v % 2 ^ 56 * 256 + headOf (drop n s)) (nameAt s (n + 1))
 unfolding keyFrom
 key-on s v n h = ap (keyFrom v) (run-on isPart (drop n s) refl h) ∙ ap (λ (t : List ℕ). keyFrom (v % 2 ^ 56 * 256 + headOf (drop n s)) (run isPart t)) (tail-drop s n)
 
-pub key-end : (s : List ℕ) (v n : ℕ) → isPart (headOf (drop n s)) ≡ false → keyFrom v (run isPart (drop n s)) ≡ v
+key-end : (s : List ℕ) (v n : ℕ) → isPart (headOf (drop n s)) ≡ false → keyFrom v (nameAt s n) ≡ v
 unfolding keyFrom
 key-end s v n h = ap (keyFrom v) (run-stop isPart (drop n s) h)
+
+pub record NameRead (s : List ℕ) (at v n : ℕ) : Type 0 where
+  pub key : keyOf (nameAt s at) ≡ keyFrom v (nameAt s n)
+  pub to : Going isPart s at n
+
+module _ (s : List ℕ) (at : ℕ) where
+  pub name-starts : NameRead s at 0 at
+  name-starts = record { key = refl; to = starts isPart s at }
+
+  module _ (v n : ℕ) (g : NameRead s at v n) where
+    pub name-on : (b : ℕ) → b ≡ headOf (drop n s) → isPart b ≡ true → NameRead s at (v % 2 ^ 56 * 256 + b) (n + 1)
+    name-on b e h =
+        let i = ap isPart (sym e) ∙ h in
+        record {
+          key = g .key ∙ key-on s v n i ∙ ap (λ (c : ℕ). keyFrom (v % 2 ^ 56 * 256 + c) (nameAt s (n + 1))) (sym e);
+          to = goes-on isPart s at n (g .to) refl i;
+        }
+
+    pub name-ends : (b : ℕ) → b ≡ headOf (drop n s) → isPart b ≡ false → record { key = v; after = n } ≡ nameFrom s at
+    name-ends b e h =
+        let i = ap isPart (sym e) ∙ h in
+        cc (g .key ∙ key-end s v n i, passed-over isPart s at n (stops isPart s at n (g .to) i))
+
+-- ---- names that are compared; how long the second one is is known
+run-some : (p : ℕ → Bool) (t : List ℕ) → (length (run p t) ≡ 0 → ⊥) → p (headOf t) ≡ true
+run-some p t n = go (p (headOf t)) refl
+  where
+    go : (c : Bool) → p (headOf t) ≡ c → c ≡ true
+    go true e = refl
+    go false e = absurd (n (ap length (run-stop p t e)))
+
+run-none : (p : ℕ → Bool) (t : List ℕ) → p 0 ≡ false → length (run p t) ≡ 0 → p (headOf t) ≡ false
+run-none p t z n = go (p (headOf t)) refl
+  where
+    go : (c : Bool) → p (headOf t) ≡ c → c ≡ false
+    go true e = absurd (let l = sym n ∙ ap length (run-on p t z e) in omega arith)
+    go false e = refl
+
+names-end : (s t : List ℕ) → isPart (headOf t) ≡ false → eqBytes (run isPart s) (run isPart t) ≡ not (isPart (headOf s))
+unfolding eqBytes
+names-end s t h = ap (eqBytes (run isPart s)) (run-stop isPart t h) ∙ go (isPart (headOf s)) refl
+  where
+    go : (c : Bool) → isPart (headOf s) ≡ c → eqBytes (run isPart s) [] ≡ not c
+    go true e = ap (λ (x : List ℕ). eqBytes x []) (run-on isPart s refl e)
+    go false e = ap (λ (x : List ℕ). eqBytes x []) (run-stop isPart s e)
+
+module _ (s t : List ℕ) (h : isPart (headOf t) ≡ true) where
+  names-differ : (headOf s ≡ headOf t → ⊥) → eqBytes (run isPart s) (run isPart t) ≡ false
+  unfolding eqBytes
+  names-differ n = ap (eqBytes (run isPart s)) (run-on isPart t refl h) ∙ go (isPart (headOf s)) refl
+    where
+      go : (c : Bool) → isPart (headOf s) ≡ c → eqBytes (run isPart s) (headOf t ∷ run isPart (tailOf t)) ≡ false
+      go true e = ap (λ (x : List ℕ). eqBytes x (headOf t ∷ run isPart (tailOf t))) (run-on isPart s refl e) ∙ ap (_&& eqBytes (run isPart (tailOf s)) (run isPart (tailOf t))) (ne-eqb (headOf s) (headOf t) n)
+      go false e = ap (λ (x : List ℕ). eqBytes x (headOf t ∷ run isPart (tailOf t))) (run-stop isPart s e)
+
+  names-on : headOf s ≡ headOf t → eqBytes (run isPart s) (run isPart t) ≡ eqBytes (run isPart (tailOf s)) (run isPart (tailOf t))
+  unfolding eqBytes
+  names-on e =
+      ap (λ (x : List ℕ). eqBytes x (run isPart t)) (run-on isPart s refl (ap isPart e ∙ h))
+      ∙ ap (eqBytes (headOf s ∷ run isPart (tailOf s))) (run-on isPart t refl h)
+      ∙ ap (_&& eqBytes (run isPart (tailOf s)) (run isPart (tailOf t))) (eq-eqb (headOf s) (headOf t) e)
+
+pub record Compared (text : List ℕ) (p : ℕ) (s : List ℕ) (at after i j : ℕ) : Type 0 where
+  pub rest : eqBytes (nameAt text p) (nameAt s at) ≡ eqBytes (nameAt text i) (nameAt s j)
+  pub to : after ≡ j + length (nameAt s j)
+
+module _ (text : List ℕ) (p : ℕ) (s : List ℕ) (at after i j : ℕ) (g : Compared text p s at after i j) (a : ℕ) (e : a ≡ headOf (drop i text)) where
+  pub compared-all : j ≡ after → not (isPart a) ≡ eqBytes (nameAt text p) (nameAt s at)
+  compared-all h = ap (λ (b : ℕ). not (isPart b)) e ∙ sym (names-end (drop i text) (drop j s) (run-none isPart (drop j s) refl (omega (arith, g .to)))) ∙ sym (g .rest)
+
+  module _ (h : j ≡ after → ⊥) where
+    second-on : isPart (headOf (drop j s)) ≡ true
+    second-on = run-some isPart (drop j s) (λ z. h (omega (arith, g .to)))
+
+    pub second-inside : j < length s
+    second-inside = class-inside isPart s j refl second-on
+
+    pub compared-not : (b : ℕ) → b ≡ headOf (drop j s) → (a ≡ b → ⊥) → false ≡ eqBytes (nameAt text p) (nameAt s at)
+    compared-not b f n = sym (g .rest ∙ names-differ (drop i text) (drop j s) second-on (λ z. n (e ∙ z ∙ sym f)))
+
+    module _ (b : ℕ) (f : b ≡ headOf (drop j s)) (q : a ≡ b) where
+      alike : headOf (drop i text) ≡ headOf (drop j s)
+      alike = sym e ∙ q ∙ f
+
+      pub first-inside : i < length text
+      first-inside = class-inside isPart text i refl (ap isPart alike ∙ second-on)
+
+      pub compared-on : Compared text p s at after (i + 1) (j + 1)
+      compared-on =
+          record {
+            rest = g .rest ∙ names-on (drop i text) (drop j s) second-on alike ∙ cc (tail-drop text i, tail-drop s j);
+            to = let l = ap length (run-on isPart (drop j s) refl second-on) ∙ ap (λ (t : List ℕ). suc (length (run isPart t))) (tail-drop s j) in omega (arith, l, g .to);
+          }

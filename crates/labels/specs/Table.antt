@@ -10,6 +10,7 @@ use lib.ListN.{length, getD}
 use lib.Seq.{sets}
 use Rattle.labels.specs.Bytes.{eqBytes}
 use Rattle.labels.specs.Reading.{nameAt}
+use Rattle.labels.specs.declared.table.Name.{Name}
 use Rattle.labels.specs.declared.table.Slot.{Slot}
 use Rattle.labels.specs.declared.table.Slot.the-variants.{Held, Free, Full}
 use Rattle.labels.specs.declared.table.Found.{Found}
@@ -24,6 +25,10 @@ keyFrom v (b ∷ t) = keyFrom (v % 2 ^ 56 * 256 + b) t
 
 abbrev pub keyOf : List ℕ → ℕ
 keyOf name = keyFrom 0 name
+
+-- the name at a place, as it is read
+abbrev pub nameFrom : List ℕ → ℕ → Name
+nameFrom s at = record { key = keyOf (nameAt s at); after = at + length (nameAt s at) }
 
 abbrev pub slotsOf : List ℕ → ℕ
 slotsOf table = length table / 3
@@ -55,7 +60,7 @@ searchFrom text table name (suc left) k =
 unfoldable pub searchIn : List ℕ → List ℕ → List ℕ → Slot
 searchIn text table name = searchFrom text table name (slotsOf table) (homeOf (keyOf name) (slotsOf table))
 
--- ---- finding: the number of instructions before a label
+-- ---- finding: the number of instructions before a label, and the place after its name
 abbrev pub indexBy : Slot → List ℕ → Option ℕ
 indexBy (Held k) table = some (indexAt table k)
 indexBy (Free k) table = none
@@ -64,9 +69,9 @@ indexBy Full table = none
 unfoldable pub indexIn : List ℕ → List ℕ → List ℕ → Option ℕ
 indexIn text table name = indexBy (searchIn text table name) table
 
-abbrev pub indexOf : Found → Option ℕ
-indexOf (At i) = some i
-indexOf Nothing = none
+abbrev pub foundBy : Option ℕ → ℕ → Found
+foundBy (some i) after = At i after
+foundBy none after = Nothing
 
 -- ---- noting the name at a place, unless it is noted
 abbrev pub notedBy : Slot → Noted

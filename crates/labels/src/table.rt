@@ -3,12 +3,12 @@ use crate::text::byte;
 use crate::text::part;
 ghost use mathlib.Core.Path.{_≡_};
 ghost use mathlib.Core.Bool.{_&&_};
-ghost use Prim.Native.Nat.{_<_};
+ghost use Prim.Native.Nat.{_+_, _<_};
 ghost use lib.Dec.{eqb};
-ghost use lib.ListN.{drop};
-ghost use Rattle.labels.specs.Bytes.{isPart, eqBytes};
-ghost use Rattle.labels.specs.Reading.{run, nameAt};
-ghost use Rattle.labels.specs.Table.{keyOf, homeOf, nextOf, holds, searchIn, indexIn, indexOf, notedBy, withLabel};
+ghost use lib.ListN.{length};
+ghost use Rattle.labels.specs.Bytes.{eqBytes};
+ghost use Rattle.labels.specs.Reading.{nameAt};
+ghost use Rattle.labels.specs.Table.{keyOf, nameFrom, homeOf, nextOf, searchIn, indexIn, foundBy, notedBy, withLabel};
 
 // Where a name is in the table, or would be.
 pub enum Slot {
@@ -18,7 +18,7 @@ pub enum Slot {
 }
 
 pub enum Found {
-    At(u64),
+    At(u64, usize),
     Nothing,
 }
 
@@ -28,24 +28,10 @@ pub enum Noted {
     NoRoom,
 }
 
-// Whether the names at two places are one.
-fn same(text: &[u8], p: usize, s: &[u8], q: usize) -> bool
-    ensures { λ r. ⌜ r ≡ eqBytes (run isPart (drop p (now (text .entry)))) (run isPart (drop q (now (s .entry)))) ⌝ }
-{
-    let mut i = p;
-    let mut j = q;
-    loop {
-        let a = byte(text, i);
-        let b = byte(s, j);
-        if !part(a) {
-            return !part(b);
-        }
-        if a != b {
-            return false;
-        }
-        i += 1;
-        j += 1;
-    }
+// A name, read once: its key, and the place after it.
+pub(crate) struct Name {
+    pub key: u64,
+    pub after: usize,
 }
 
 fn place(x: u64) -> usize
@@ -60,30 +46,51 @@ fn wide(c: u8) -> u64
     c as u64
 }
 
-// The last eight bytes of the name at a place, as a number.
-fn key(s: &[u8], at: usize) -> u64
-    ensures { λ r. ⌜ r ≡ keyOf (run isPart (drop at (now (s .entry)))) ⌝ }
+// The name at a place. Its key is its last eight bytes as a number.
+fn name_at(s: &[u8], at: usize) -> Name
+    ensures { λ r. ⌜ r ≡ nameFrom (now (s .entry)) at ⌝ }
 {
     let mut v: u64 = 0;
     let mut n = at;
     loop {
         let c = byte(s, n);
         if !part(c) {
-            return v;
+            return Name { key: v, after: n };
         }
         v = (v % 0x100_0000_0000_0000) * 256 + wide(c);
         n += 1;
     }
 }
 
-// Whether the label at a place of the table, whose key is q, has the name at a place, whose key is w.
-fn is_label(text: &[u8], p: u64, q: u64, s: &[u8], at: usize, w: u64) -> bool
-    ensures { λ r. ⌜ r ≡ eqb q w && eqBytes (run isPart (drop p (now (text .entry)))) (run isPart (drop at (now (s .entry)))) ⌝ }
+// Whether the name at a place of the text is the one from `at` to `after`.
+fn same(text: &[u8], p: usize, s: &[u8], at: usize, after: usize) -> bool
+    requires { ⌜ after ≡ at + length (nameAt (now s) at) ⌝ }
+    ensures { λ r. ⌜ r ≡ eqBytes (nameAt (now (text .entry)) p) (nameAt (now (s .entry)) at) ⌝ }
 {
-    if q != w {
+    let mut i = p;
+    let mut j = at;
+    loop {
+        let a = byte(text, i);
+        if j == after {
+            return !part(a);
+        }
+        if a != s[j] {
+            return false;
+        }
+        i += 1;
+        j += 1;
+    }
+}
+
+// Whether the label at a place of the table, whose key is q, has this name, which stands at a place.
+fn is_label(text: &[u8], p: u64, q: u64, s: &[u8], at: usize, name: Name) -> bool
+    requires { ⌜ name ≡ nameFrom (now s) at ⌝ }
+    ensures { λ r. ⌜ r ≡ eqb q (keyOf (nameAt (now (s .entry)) at)) && eqBytes (nameAt (now (text .entry)) p) (nameAt (now (s .entry)) at) ⌝ }
+{
+    if q != name.key {
         return false;
     }
-    same(text, place(p), s, at)
+    same(text, place(p), s, at, name.after)
 }
 
 fn home(w: u64, slots: usize) -> usize
@@ -104,16 +111,16 @@ fn next(k: usize, slots: usize) -> usize
     k + 1
 }
 
-// The slot of the name at a place, whose key is w.
-fn search(text: &[u8], table: &[u64], s: &[u8], at: usize, w: u64) -> Slot
-    requires { ⌜ w ≡ keyOf (nameAt (now s) at) ⌝ }
+// The slot of this name, which stands at a place.
+fn search(text: &[u8], table: &[u64], s: &[u8], at: usize, name: Name) -> Slot
+    requires { ⌜ name ≡ nameFrom (now s) at ⌝ }
     ensures { λ r. ⌜ r ≡ searchIn (now (text .entry)) (now (table .entry)) (nameAt (now (s .entry)) at) ⌝ }
 {
     let slots = table.len() / 3;
     if slots == 0 {
         return Slot::Full;
     }
-    let mut k = home(w, slots);
+    let mut k = home(name.key, slots);
     let mut left = slots;
     loop {
         if left == 0 {
@@ -124,7 +131,7 @@ fn search(text: &[u8], table: &[u64], s: &[u8], at: usize, w: u64) -> Slot
         if q == 0 {
             return Slot::Free(k);
         }
-        if is_label(text, table[i], q, s, at, w) {
+        if is_label(text, table[i], q, s, at, name) {
             return Slot::Held(k);
         }
         k = next(k, slots);
@@ -132,12 +139,13 @@ fn search(text: &[u8], table: &[u64], s: &[u8], at: usize, w: u64) -> Slot
     }
 }
 
-// The number of instructions before the label that has the name at a place.
+// The number of instructions before the label that has the name at a place, and the place after the name.
 pub fn find(text: &[u8], table: &[u64], s: &[u8], at: usize) -> Found
-    ensures { λ r. ⌜ indexIn (now (text .entry)) (now (table .entry)) (run isPart (drop at (now (s .entry)))) ≡ indexOf r ⌝ }
+    ensures { λ r. ⌜ r ≡ foundBy (indexIn (now (text .entry)) (now (table .entry)) (nameAt (now (s .entry)) at)) (at + length (nameAt (now (s .entry)) at)) ⌝ }
 {
-    match search(text, table, s, at, key(s, at)) {
-        Slot::Held(k) => Found::At(table[3 * k + 2]),
+    let name = name_at(s, at);
+    match search(text, table, s, at, name) {
+        Slot::Held(k) => Found::At(table[3 * k + 2], name.after),
         Slot::Free(_) => Found::Nothing,
         Slot::Full => Found::Nothing,
     }
@@ -148,13 +156,13 @@ pub fn note(text: &[u8], table: &mut [u64], at: usize, index: u64) -> Noted
     ensures { λ r. ⌜ (r ≡ notedBy (searchIn (now (text .entry)) (now (table .entry)) (nameAt (now (text .entry)) at)))
         × (now (table .exit) ≡ withLabel (searchIn (now (text .entry)) (now (table .entry)) (nameAt (now (text .entry)) at)) (now (table .entry)) at (keyOf (nameAt (now (text .entry)) at)) index) ⌝ }
 {
-    let w = key(text, at);
-    match search(text, table, text, at, w) {
+    let name = name_at(text, at);
+    match search(text, table, text, at, name) {
         Slot::Held(_) => Noted::Again,
         Slot::Free(k) => {
             let i = 3 * k;
             table[i] = at as u64;
-            table[i + 1] = w;
+            table[i + 1] = name.key;
             table[i + 2] = index;
             Noted::New
         }

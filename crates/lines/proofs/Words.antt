@@ -14,10 +14,8 @@ use Rattle.opcode.specs.Opcodes.{opcodeNumber, formOf}
 use Rattle.opcode.specs.declared.Opcode.{Opcode}
 use Rattle.opcode.specs.declared.Form.{Form}
 use Rattle.opcode.specs.declared.Form.the-variants.{R, I, Shift, S, B, J, Alone}
-use Rattle.instruction.specs.Operands.{instructionOf, partsOf}
 use Rattle.instruction.specs.declared.Parts.{Parts}
-use Rattle.instruction.proofs.Wholes.{kept, parts-joined}
-use Rattle.words.specs.Words.{encodedIn, encodeIn}
+use Rattle.words.specs.Words.{encodedIn}
 use Rattle.labels.specs.Bytes.{headOf, isSpace}
 use Rattle.labels.specs.Reading.{tailOf, skip, Passed}
 use Rattle.sums.specs.Reader.{Got, got, bad, onto}
@@ -78,25 +76,23 @@ pub none-word : (op : Opcode) (o : Option (List ℤ)) → o ≡ none → toldBy 
 unfolding wordOf
 none-word op o e = ap (λ (x : Option (List ℤ)). toldBy (wordOf op x)) e
 
-pub some-word : (op : Opcode) (o : Option (List ℤ)) (vs : List ℤ) (p : Parts) → o ≡ some vs → p .op ≡ op → partsBy op (formOf op) vs ≡ kept (formOf op) p → toldBy (wordOf op o) ≡ toldBy (wordIn (encodeIn opcodeNumber (instructionOf p)))
+pub some-word : (op : Opcode) (o : Option (List ℤ)) (vs : List ℤ) (p : Parts) → o ≡ some vs → partsBy op (formOf op) vs ≡ p → toldBy (wordOf op o) ≡ toldBy (wordIn (encodedIn opcodeNumber p))
 unfolding wordOf
-some-word op o vs p e q k =
-    ap (λ (x : Option (List ℤ)). toldBy (wordOf op x)) e
-    ∙ ap (λ (x : Parts). toldBy (wordIn (encodedIn opcodeNumber x))) (k ∙ ap (λ (y : Opcode). kept (formOf y) p) (sym q) ∙ sym (parts-joined p))
+some-word op o vs p e q = ap (λ (x : Option (List ℤ)). toldBy (wordOf op x)) e ∙ ap (λ (x : Parts). toldBy (wordIn (encodedIn opcodeNumber x))) q
 
 module _ (op : Opcode) (a b : ℕ) where
-  pub kept-three : (c : ℕ) → formOf op ≡ R → partsBy op (formOf op) (pos a ∷ (pos b ∷ (pos c ∷ []))) ≡ kept (formOf op) (parts op a b c 0)
-  unfolding partsBy kept
-  kept-three c e = subst (λ (f : Form). partsBy op f (pos a ∷ (pos b ∷ (pos c ∷ []))) ≡ kept f (parts op a b c 0)) (sym e) refl
+  pub parts-three : (c : ℕ) → formOf op ≡ R → partsBy op (formOf op) (pos a ∷ (pos b ∷ (pos c ∷ []))) ≡ parts op a b c 0
+  unfolding partsBy
+  parts-three c e = ap (λ (f : Form). partsBy op f (pos a ∷ (pos b ∷ (pos c ∷ [])))) e
 
-  pub kept-two : (v : ℤ) (i : ℕ) → isNumbered (formOf op) ≡ true → i ≡ ofZ w64 v → partsBy op (formOf op) (pos a ∷ (pos b ∷ (v ∷ []))) ≡ kept (formOf op) (parts op a b 0 i)
-  unfolding partsBy kept
-  kept-two v i h e = go (formOf op) h
+  pub parts-two : (v : ℤ) (i : ℕ) → isNumbered (formOf op) ≡ true → i ≡ ofZ w64 v → partsBy op (formOf op) (pos a ∷ (pos b ∷ (v ∷ []))) ≡ parts op a b 0 i
+  unfolding partsBy
+  parts-two v i h e = go (formOf op) h
     where
       no : {A : Type 0} → false ≡ true → A
       no h = absurd (let z : _≡_ {A = ℕ} 0 1 = cc in omega arith)
 
-      go : (f : Form) → isNumbered f ≡ true → partsBy op f (pos a ∷ (pos b ∷ (v ∷ []))) ≡ kept f (parts op a b 0 i)
+      go : (f : Form) → isNumbered f ≡ true → partsBy op f (pos a ∷ (pos b ∷ (v ∷ []))) ≡ parts op a b 0 i
       go R h = no h
       go I h = ap (parts op a b 0) (sym e)
       go Shift h = ap (parts op a b 0) (sym e)
@@ -105,13 +101,13 @@ module _ (op : Opcode) (a b : ℕ) where
       go J h = no h
       go Alone h = no h
 
-pub kept-one : (op : Opcode) (a : ℕ) (v : ℤ) (i : ℕ) → formOf op ≡ J → i ≡ ofZ w64 v → partsBy op (formOf op) (pos a ∷ (v ∷ [])) ≡ kept (formOf op) (parts op a 0 0 i)
-unfolding partsBy kept
-kept-one op a v i e q = subst (λ (f : Form). partsBy op f (pos a ∷ (v ∷ [])) ≡ kept f (parts op a 0 0 i)) (sym e) (ap (parts op a 0 0) (sym q))
+pub parts-one : (op : Opcode) (a : ℕ) (v : ℤ) (i : ℕ) → formOf op ≡ J → i ≡ ofZ w64 v → partsBy op (formOf op) (pos a ∷ (v ∷ [])) ≡ parts op a 0 0 i
+unfolding partsBy
+parts-one op a v i e q = ap (λ (f : Form). partsBy op f (pos a ∷ (v ∷ []))) e ∙ ap (parts op a 0 0) (sym q)
 
-pub kept-none : (op : Opcode) → formOf op ≡ Alone → partsBy op (formOf op) [] ≡ kept (formOf op) (parts op 0 0 0 0)
-unfolding partsBy kept
-kept-none op e = subst (λ (f : Form). partsBy op f [] ≡ kept f (parts op 0 0 0 0)) (sym e) refl
+pub parts-none : (op : Opcode) → formOf op ≡ Alone → partsBy op (formOf op) [] ≡ parts op 0 0 0 0
+unfolding partsBy
+parts-none op e = ap (λ (f : Form). partsBy op f []) e
 
 pub bits-of : (v : ℕ) → v < 2 ^ 64 → (v + 2 ^ 63) % 2 ^ 64 ≡ ofZ w64 (of64 v)
 bits-of v h = go (ltb v (2 ^ 63)) refl

@@ -6,13 +6,12 @@ use crate::operands::register_comma;
 use crate::operands::register_last;
 use forms::form_of;
 use instruction::Parts;
-use instruction::instruction_of;
 use labels::text::skip;
 use opcode::Form;
 use opcode::Opcode;
 use sums::Read;
 use words::Encoded;
-use words::encode;
+use words::encode_parts;
 ghost use mathlib.Core.Path.{_≡_};
 ghost use mathlib.Core.Bool.{true};
 ghost use mathlib.Core.List.{[]};
@@ -20,8 +19,7 @@ ghost use lib.ListN.{drop};
 ghost use Rattle.opcode.specs.Opcodes.{opcodeNumber, formOf};
 ghost use Rattle.opcode.specs.declared.Form.the-variants as Form·;
 ghost use Rattle.opcode.specs.declared.Found.the-variants as Found·;
-ghost use Rattle.instruction.specs.Operands.{instructionOf};
-ghost use Rattle.words.specs.Words.{encodeIn};
+ghost use Rattle.words.specs.Words.{encodedIn};
 ghost use mir.Syntax.{w64};
 ghost use mir.Val.{ofZ};
 ghost use Rattle.sums.specs.Code.{lookIn, of64};
@@ -30,9 +28,9 @@ ghost use Rattle.lines.specs.Reader.{operandsRead, instructionRead};
 ghost use Rattle.lines.specs.Code.{isNumbered, labelsIn, saidOf};
 
 fn word(p: Parts) -> Said
-    ensures { λ r. ⌜ toldBy (wordIn (encodeIn opcodeNumber (instructionOf p))) ≡ saidOf [] r ⌝ }
+    ensures { λ r. ⌜ toldBy (wordIn (encodedIn opcodeNumber p)) ≡ saidOf [] r ⌝ }
 {
-    match encode(instruction_of(p)) {
+    match encode_parts(p) {
         Encoded::Word(w) => Said::Word(w),
         Encoded::Refused(_) => Said::Bad,
     }

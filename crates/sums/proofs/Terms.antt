@@ -15,7 +15,8 @@ use Rattle.sums.specs.Sums.{Op, add, sub, plus, minus, checked, known, j
 use Rattle.labels.specs.Reading.{tailOf, run, past, skip, Passed}
 use Rattle.sums.specs.Reader.{Got, got, bad, given, onto, digitsRead, numberRead, nameRead, shut, termBy, moreBy, sumRead, innerRead, termRead}
 use Rattle.sums.specs.Code.{of64, valueOf, opOf, signAt, lookIn, seen, Past}
-use Rattle.labels.specs.Table.{indexIn}
+use Rattle.labels.specs.Table.{indexIn, foundBy}
+use Rattle.labels.specs.declared.table.Found.the-variants.{At, Nothing}
 use Rattle.sums.specs.declared.Read.{Read}
 use Rattle.sums.specs.declared.Read.the-variants.{Value, Bad}
 use Rattle.sums.specs.declared.numbers.Both.{Both}
@@ -46,6 +47,14 @@ module _ (s : List ℕ) (at : ℕ) where
   number-bare p m = simp (ne-eqb _ _ p, ne-eqb _ _ m)
 
 -- ---- labels
+pub found-none : (o : Option ℕ) (m : ℕ) → foundBy o m ≡ Nothing → o ≡ none
+found-none none m e = refl
+found-none (some j) m e = absurd (let z : _≡_ {A = ℕ} 0 1 = cc in omega arith)
+
+pub found-at : (o : Option ℕ) (m i n : ℕ) → foundBy o m ≡ At i n → (o ≡ some i) × (n ≡ m)
+found-at none m i n e = absurd (let z : _≡_ {A = ℕ} 0 1 = cc in omega arith)
+found-at (some j) m i n e = (cc, cc)
+
 module _ (text table : List ℕ) (base : ℕ) (t : List ℕ) where
   pub name-none : indexIn text table (run isPart t) ≡ none → nameRead (lookIn text table base) t ≡ bad
   unfolding nameRead lookIn known

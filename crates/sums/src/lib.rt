@@ -5,7 +5,6 @@ mod numbers;
 use digits::number;
 use labels::table::Found;
 use labels::table::find;
-use labels::text::after_name;
 use labels::text::byte;
 use labels::text::letter;
 use labels::text::skip;
@@ -30,13 +29,13 @@ fn named(s: &[u8], text: &[u8], table: &[u64], base: u64, at: usize) -> Read
     requires { ⌜ isLetter (headOf (drop at (now s))) ≡ true ⌝ }
     ensures { λ r. ⌜ (nameRead (lookIn (now (text .entry)) (now (table .entry)) base) (drop at (now (s .entry))) ≡ seen (now (s .entry)) r) × Past (now (s .entry)) at r ⌝ }
 {
-    let Found::At(i) = find(text, table, s, at) else {
+    let Found::At(i, n) = find(text, table, s, at) else {
         return Read::Bad;
     };
     let Both::Of(v) = distance(i, base) else {
         return Read::Bad;
     };
-    Read::Value(v, after_name(s, at))
+    Read::Value(v, n)
 }
 
 // The sign at a place, or 0.

@@ -59,7 +59,8 @@ fn word_of(f: Form, n: u32, p: Parts) -> u32
     }
 }
 
-fn encoded(p: Parts) -> Encoded
+// The word of operands, with no instruction built.
+pub fn encode_parts(p: Parts) -> Encoded
     ensures { λ r. ⌜ r ≡ encodedIn opcodeNumber p ⌝ }
 {
     let op = p.op;
@@ -73,5 +74,5 @@ fn encoded(p: Parts) -> Encoded
 pub fn encode(i: Instruction) -> Encoded
     ensures { λ r. ⌜ r ≡ encodeIn opcodeNumber i ⌝ }
 {
-    encoded(parts_of(i))
+    encode_parts(parts_of(i))
 }

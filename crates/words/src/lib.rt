@@ -4,6 +4,7 @@ pub mod encoder;
 
 pub use decoder::decode;
 pub use encoder::encode;
+pub use encoder::encode_parts;
 use instruction::Instruction;
 use instruction::Parts;
 use refusal::Refusal;

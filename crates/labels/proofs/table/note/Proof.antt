@@ -1,3 +1,4 @@
+use Rattle.labels.specs.declared.table.Name.{Name}
 use Rattle.labels.specs.declared.table.Noted.{Noted}
 use lib.Seq.{sets}
 use Prim.Native.Nat.{ℕ, _*_}
@@ -14,12 +15,12 @@ use Rattle.labels.proofs.table.note.Statement.{statement}
 use Rattle.labels.proofs.table.note.Tie as tie
 use Rattle.labels.proofs.table.note.Reads as reads
 use Rattle.labels.proofs.table.note.Lts as lts
-use Rattle.labels.proofs.table.key.Reads as key-reads
+use Rattle.labels.proofs.table.name_at.Reads as name-at-reads
 use Rattle.labels.proofs.table.search.Reads as search-reads
 
 -- src/table.rt:151:9
-key-requires : tie.Need-key-requires
-key-requires c κs = search needs
+name-at-requires : tie.Need-name-at-requires
+name-at-requires c κs = search needs
 
 -- src/table.rt:152:11
 search-requires : tie.Need-search-requires
@@ -87,7 +88,7 @@ same-length-2 c = search needs
 
 -- src/table.rt:147:1
 returns-2 : tie.Need-returns-2
-returns-2 c = let a = c .before .before .before .before .before .before .before .before .args in let e = sym (c .before .before .before .search .ensures) ∙ c .before .k .given .1 in let key = keyOf (nameAt (a .text .now) (a .at)) in (ap notedBy (sym e), three-sets (a .table .now) (3 * c .before .k .given .0 .0) (a .at) (c .before .before .before .before .before .key .result) (a .index) ∙ ap (λ (q : ℕ). sets (a .table .now) (3 * c .before .k .given .0 .0) (a .at ∷ (q ∷ (a .index ∷ [])))) (c .before .before .before .before .before .key .ensures) ∙ ap (λ (r : Slot). withLabel r (a .table .now) (a .at) key (a .index)) (sym e))
+returns-2 c = let a = c .before .before .before .before .before .before .before .before .args in let e = sym (c .before .before .before .search .ensures) ∙ c .before .k .given .1 in let key = keyOf (nameAt (a .text .now) (a .at)) in (ap notedBy (sym e), three-sets (a .table .now) (3 * c .before .k .given .0 .0) (a .at) (c .before .before .before .before .before .name-at .result .key) (a .index) ∙ ap (λ (q : ℕ). sets (a .table .now) (3 * c .before .k .given .0 .0) (a .at ∷ (q ∷ (a .index ∷ [])))) (ap (λ (n : Name). n .key) (c .before .before .before .before .before .name-at .ensures)) ∙ ap (λ (r : Slot). withLabel r (a .table .now) (a .at) key (a .index)) (sym e))
 
 -- src/table.rt:147:1
 same-length-3 : tie.Need-same-length-3
@@ -101,7 +102,7 @@ pub note-spec : {M : Type 1} → statement M
 note-spec =
     tie.close
     (tie.spec
-    key-requires
+    name-at-requires
     search-requires
     enum-told
     enum-known-k

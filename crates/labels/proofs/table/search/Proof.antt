@@ -1,4 +1,5 @@
-use Rattle.labels.proofs.Searches.{search-free, search-held, search-on, held}
+use Rattle.labels.proofs.Searches.{search-free, search-held, search-on}
+use Rattle.labels.specs.declared.table.Name.{Name}
 use Rattle.labels.specs.Table.{keyOf, slotsOf, homeOf, searchFrom, searchIn}
 use Rattle.labels.specs.Reading.{nameAt}
 use Rattle.labels.specs.Bytes.{eqBytes}
@@ -17,11 +18,11 @@ use Rattle.labels.proofs.table.is_label.Reads as is-label-reads
 use Rattle.labels.proofs.table.next.Reads as next-reads
 
 abbrev Inv-loop : tie.InvT-loop
-Inv-loop text table s at w slots k₀ left₀ k left =
+Inv-loop text table s at name slots k₀ left₀ k left =
     (k < slots) × ((slots ≡ length table / 3) × (searchIn text table (nameAt s at) ≡ searchFrom text table (nameAt s at) left k))
 
 abbrev μ-loop : tie.MeasureT-loop
-μ-loop text table s at w slots k₀ left₀ k left = left
+μ-loop text table s at name slots k₀ left₀ k left = left
 
 -- src/table.rt:114:9
 returns : tie.Need-returns Inv-loop μ-loop
@@ -35,7 +36,7 @@ home-requires c κs = omega (arith, c .if1 .left)
 -- src/table.rt:118:5
 loop-holds : tie.Need-loop-holds Inv-loop μ-loop
 unfolding searchIn
-loop-holds c = let a = c .before .before .before .before .before .args in (c .home .ensures .1, (refl, ap (searchFrom (a .text .now) (a .table .now) (nameAt (a .s .now) (a .at)) (slotsOf (a .table .now))) (sym (c .home .ensures .0 ∙ ap (λ (n : ℕ). homeOf n (slotsOf (a .table .now))) (c .before .before .before .before .before .pre)))))
+loop-holds c = let a = c .before .before .before .before .before .args in (c .home .ensures .1, (refl, ap (searchFrom (a .text .now) (a .table .now) (nameAt (a .s .now) (a .at)) (slotsOf (a .table .now))) (sym (c .home .ensures .0 ∙ ap (λ (n : ℕ). homeOf n (slotsOf (a .table .now))) (ap (λ (n : Name). n .key) (c .before .before .before .before .before .pre))))))
 
 -- src/table.rt:120:13
 returns-2 : tie.Need-returns-2 Inv-loop μ-loop
@@ -72,11 +73,11 @@ shared-slice-read-is-label c = omega arith
 
 -- src/table.rt:127:12
 is-label-requires : tie.Need-is-label-requires Inv-loop μ-loop
-is-label-requires c κs = tt
+is-label-requires c κs = c .before .before .before .before .before .before .before .before .before .before .pre
 
 -- src/table.rt:128:13
 returns-4 : tie.Need-returns-4 Inv-loop μ-loop
-returns-4 c = let a = c .before .before .before .before .before .before .before .before .before .before .before .before .args in let l = c .before .before .before .before .before .before .loop in sym (l .inv .1 .1 ∙ search-held (a .text .now) (a .table .now) (nameAt (a .s .now) (a .at)) (l .k) (l .left) (c .before .before .before .before .before .if2 .left) (c .before .before .before .if3 .left) (held (a .text .now) (a .table .now) (nameAt (a .s .now) (a .at)) (l .k) (a .w) (c .before .before .before .before .before .before .before .before .before .before .before .before .pre) true (sym (c .before .is-label .ensures) ∙ c .if4 .taken)))
+returns-4 c = let a = c .before .before .before .before .before .before .before .before .before .before .before .before .args in let l = c .before .before .before .before .before .before .loop in sym (l .inv .1 .1 ∙ search-held (a .text .now) (a .table .now) (nameAt (a .s .now) (a .at)) (l .k) (l .left) (c .before .before .before .before .before .if2 .left) (c .before .before .before .if3 .left) (sym (c .before .is-label .ensures) ∙ c .if4 .taken))
 
 -- src/table.rt:130:9
 next-requires : tie.Need-next-requires Inv-loop μ-loop
@@ -92,7 +93,7 @@ loop-less c = omega arith
 
 -- src/table.rt:118:5
 loop-again : tie.Need-loop-again Inv-loop μ-loop
-loop-again c = let a = c .before .before .before .before .before .before .before .before .before .before .before .before .before .args in let l = c .before .before .before .before .before .before .before .loop in (c .next .ensures .1, (refl, l .inv .1 .1 ∙ search-on (a .text .now) (a .table .now) (nameAt (a .s .now) (a .at)) (l .k) (l .left) (c .before .before .before .before .before .before .if2 .left) (c .before .before .before .before .if3 .left) (held (a .text .now) (a .table .now) (nameAt (a .s .now) (a .at)) (l .k) (a .w) (c .before .before .before .before .before .before .before .before .before .before .before .before .before .pre) false (sym (c .before .before .is-label .ensures) ∙ c .before .if4 .left)) ∙ ap (searchFrom (a .text .now) (a .table .now) (nameAt (a .s .now) (a .at)) (l .left - 1)) (sym (c .next .ensures .0))))
+loop-again c = let a = c .before .before .before .before .before .before .before .before .before .before .before .before .before .args in let l = c .before .before .before .before .before .before .before .loop in (c .next .ensures .1, (refl, l .inv .1 .1 ∙ search-on (a .text .now) (a .table .now) (nameAt (a .s .now) (a .at)) (l .k) (l .left) (c .before .before .before .before .before .before .if2 .left) (c .before .before .before .before .if3 .left) (sym (c .before .before .is-label .ensures) ∙ c .before .if4 .left) ∙ ap (searchFrom (a .text .now) (a .table .now) (nameAt (a .s .now) (a .at)) (l .left - 1)) (sym (c .next .ensures .0))))
 
 pub search-spec : {M : Type 1} → statement M
 search-spec =

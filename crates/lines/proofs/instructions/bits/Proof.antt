@@ -1,17 +1,5 @@
-use Rattle.lines.proofs.Words.{first-bad, first-got, last-none, last-some, register-any, none-word, some-word, kept-three, kept-two, kept-one, kept-none, bits-of}
-use Rattle.lines.specs.Code.{regSeen}
-use Rattle.lines.specs.Lines.{register, immediate, wordIn, toldBy, parts}
-use Rattle.sums.specs.Code.{lookIn, of64, seen}
-use Rattle.words.specs.declared.Encoded.{Encoded}
-use Rattle.words.specs.Words.{encodeIn}
-use Rattle.instruction.specs.declared.Instruction.{Instruction}
-use Rattle.opcode.specs.Opcodes.{opcodeNumber, formOf}
-use lib.ListN.{drop}
-use lib.IntN.{pos}
-use Prim.Native.Nat.{ℕ}
-use mathlib.Core.Option.{Option, none, some}
-use mathlib.Core.List.{List, [], _∷_}
-use mathlib.Core.Path.{_≡_, refl, sym, _∙_, ap, subst}
+use Rattle.lines.proofs.Words.{bits-of}
+use mathlib.Core.Path.{_∙_}
 use borrow.Author.Needs.{needs}
 use Rattle.lines.proofs.instructions.bits.Statement.{statement}
 use Rattle.lines.proofs.instructions.bits.Tie as tie

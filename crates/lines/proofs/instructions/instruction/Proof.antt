@@ -12,7 +12,7 @@ use lib.IntN.{ℤ}
 use mathlib.Core.Option.{Option}
 use mathlib.Core.List.{List, [], _∷_}
 use mathlib.Core.Bool.{true}
-use mathlib.Core.Path.{_≡_, refl, sym, _∙_, ap}
+use mathlib.Core.Path.{refl, sym, _∙_, ap}
 use borrow.Author.Needs.{needs}
 use Rattle.lines.proofs.instructions.instruction.Statement.{statement}
 use Rattle.lines.proofs.instructions.instruction.Tie as tie

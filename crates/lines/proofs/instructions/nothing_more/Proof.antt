@@ -1,20 +1,11 @@
 use Rattle.labels.specs.Bytes.{isSpace}
 use Rattle.labels.proofs.Steps.{passed}
 use Rattle.lines.proofs.Words.{none-left, none-there}
-use Rattle.lines.proofs.Words.{first-bad, first-got, last-none, last-some, register-any, none-word, some-word, kept-three, kept-two, kept-one, kept-none, bits-of}
-use Rattle.lines.specs.Code.{regSeen}
-use Rattle.lines.specs.Lines.{register, immediate, wordIn, toldBy, parts}
-use Rattle.sums.specs.Code.{lookIn, of64, seen}
-use Rattle.words.specs.declared.Encoded.{Encoded}
-use Rattle.words.specs.Words.{encodeIn}
-use Rattle.instruction.specs.declared.Instruction.{Instruction}
-use Rattle.opcode.specs.Opcodes.{opcodeNumber, formOf}
-use lib.ListN.{drop}
-use lib.IntN.{pos}
-use Prim.Native.Nat.{ℕ}
-use mathlib.Core.Option.{Option, none, some}
-use mathlib.Core.List.{List, [], _∷_}
-use mathlib.Core.Path.{_≡_, refl, sym, _∙_, ap, subst}
+use Rattle.lines.proofs.Words.{none-word, some-word, parts-none}
+use Rattle.lines.specs.Lines.{parts}
+use Rattle.sums.specs.Code.{lookIn}
+use mathlib.Core.List.{[]}
+use mathlib.Core.Path.{_∙_}
 use borrow.Author.Needs.{needs}
 use Rattle.lines.proofs.instructions.nothing_more.Statement.{statement}
 use Rattle.lines.proofs.instructions.nothing_more.Tie as tie
@@ -37,7 +28,7 @@ word-requires c κs = search needs
 
 -- src/instructions.rt:111:1
 returns-2 : tie.Need-returns-2
-returns-2 c = some-word (c .before .before .before .before .args .op) _ [] (parts (c .before .before .before .before .args .op) 0 0 0 0) (none-there (c .before .before .before .before .args .s .now) (c .before .before .before .before .args .at) _ (lookIn [] [] 0) (passed isSpace _ _ _ (c .before .before .skip .ensures)) (c .before .if1 .left)) refl (kept-none (c .before .before .before .before .args .op) (c .before .before .before .before .pre)) ∙ c .word .ensures
+returns-2 c = some-word (c .before .before .before .before .args .op) _ [] (parts (c .before .before .before .before .args .op) 0 0 0 0) (none-there (c .before .before .before .before .args .s .now) (c .before .before .before .before .args .at) _ (lookIn [] [] 0) (passed isSpace _ _ _ (c .before .before .skip .ensures)) (c .before .if1 .left)) (parts-none (c .before .before .before .before .args .op) (c .before .before .before .before .pre)) ∙ c .word .ensures
 
 pub nothing-more-spec : {M : Type 1} → statement M
 nothing-more-spec = tie.close (tie.spec skip-requires returns word-requires returns-2)

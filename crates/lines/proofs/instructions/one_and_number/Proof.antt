@@ -1,17 +1,12 @@
-use Rattle.lines.proofs.Words.{first-bad, first-got, last-none, last-some, register-any, none-word, some-word, kept-three, kept-two, kept-one, kept-none, bits-of}
+use Rattle.lines.proofs.Words.{first-bad, first-got, last-none, last-some, register-any, none-word, some-word, parts-one}
 use Rattle.lines.specs.Code.{regSeen}
-use Rattle.lines.specs.Lines.{register, immediate, wordIn, toldBy, parts}
+use Rattle.lines.specs.Lines.{register, immediate, parts}
 use Rattle.sums.specs.Code.{lookIn, of64, seen}
-use Rattle.words.specs.declared.Encoded.{Encoded}
-use Rattle.words.specs.Words.{encodeIn}
-use Rattle.instruction.specs.declared.Instruction.{Instruction}
-use Rattle.opcode.specs.Opcodes.{opcodeNumber, formOf}
 use lib.ListN.{drop}
 use lib.IntN.{pos}
-use Prim.Native.Nat.{ℕ}
-use mathlib.Core.Option.{Option, none, some}
-use mathlib.Core.List.{List, [], _∷_}
-use mathlib.Core.Path.{_≡_, refl, sym, _∙_, ap, subst}
+use mathlib.Core.Option.{none, some}
+use mathlib.Core.List.{[], _∷_}
+use mathlib.Core.Path.{_∙_, ap}
 use borrow.Author.Needs.{needs}
 use Rattle.lines.proofs.instructions.one_and_number.Statement.{statement}
 use Rattle.lines.proofs.instructions.one_and_number.Tie as tie
@@ -70,7 +65,7 @@ returns-3 : tie.Need-returns-3
 returns-3 c = let s = c .before .before .before .before .before .before .before .before .before .before .before .before .before .args .s .now in let look = lookIn (c .before .before .before .before .before .before .before .before .before .before .before .before .before .args .text .now) (c .before .before .before .before .before .before .before .before .before .before .before .before .before .args .table .now) (c .before .before .before .before .before .before .before .before .before .before .before .before .before .args .base) in
     let a = c .before .before .before .before .before .before .before .a .given .0 .0 in let v = of64 (c .before .before .before .v .given .0 .0) in
     some-word (c .before .before .before .before .before .before .before .before .before .before .before .before .before .args .op) _ (pos a ∷ (v ∷ [])) (parts (c .before .before .before .before .before .before .before .before .before .before .before .before .before .args .op) a 0 0 (c .before .bits .result)) (first-got look register immediate [] (drop (c .before .before .before .before .before .before .before .before .before .before .before .before .before .args .at) s) (pos a) (drop (c .before .before .before .before .before .before .before .a .given .0 .1 .0) s) (some (v ∷ [])) (register-any look (lookIn [] [] 0) _ _ (c .before .before .before .before .before .before .before .before .before .register-comma .ensures .0 ∙ ap (regSeen s) (c .before .before .before .before .before .before .before .a .given .1)))
-    (last-some look immediate (drop (c .before .before .before .before .before .before .before .a .given .0 .1 .0) s) v _ (c .before .before .before .before .before .number-last .ensures ∙ ap (seen s) (c .before .before .before .v .given .1)))) refl (kept-one (c .before .before .before .before .before .before .before .before .before .before .before .before .before .args .op) a v (c .before .bits .result) (c .before .before .before .before .before .before .before .before .before .before .before .before .before .pre) (c .before .bits .ensures)) ∙ c .word .ensures
+    (last-some look immediate (drop (c .before .before .before .before .before .before .before .a .given .0 .1 .0) s) v _ (c .before .before .before .before .before .number-last .ensures ∙ ap (seen s) (c .before .before .before .v .given .1)))) (parts-one (c .before .before .before .before .before .before .before .before .before .before .before .before .before .args .op) a v (c .before .bits .result) (c .before .before .before .before .before .before .before .before .before .before .before .before .before .pre) (c .before .bits .ensures)) ∙ c .word .ensures
 
 pub one-and-number-spec : {M : Type 1} → statement M
 one-and-number-spec =

@@ -1,17 +1,12 @@
-use Rattle.lines.proofs.Words.{first-bad, first-got, last-none, last-some, register-any, none-word, some-word, kept-three, kept-two, kept-one, kept-none, bits-of}
+use Rattle.lines.proofs.Words.{first-bad, first-got, last-none, last-some, none-word, some-word, parts-three}
 use Rattle.lines.specs.Code.{regSeen}
-use Rattle.lines.specs.Lines.{register, immediate, wordIn, toldBy, parts}
-use Rattle.sums.specs.Code.{lookIn, of64, seen}
-use Rattle.words.specs.declared.Encoded.{Encoded}
-use Rattle.words.specs.Words.{encodeIn}
-use Rattle.instruction.specs.declared.Instruction.{Instruction}
-use Rattle.opcode.specs.Opcodes.{opcodeNumber, formOf}
+use Rattle.lines.specs.Lines.{register, parts}
+use Rattle.sums.specs.Code.{lookIn}
 use lib.ListN.{drop}
 use lib.IntN.{pos}
-use Prim.Native.Nat.{ℕ}
-use mathlib.Core.Option.{Option, none, some}
-use mathlib.Core.List.{List, [], _∷_}
-use mathlib.Core.Path.{_≡_, refl, sym, _∙_, ap, subst}
+use mathlib.Core.Option.{none, some}
+use mathlib.Core.List.{[], _∷_}
+use mathlib.Core.Path.{_∙_, ap}
 use borrow.Author.Needs.{needs}
 use Rattle.lines.proofs.instructions.three_registers.Statement.{statement}
 use Rattle.lines.proofs.instructions.three_registers.Tie as tie
@@ -84,7 +79,7 @@ returns-4 c = let s = c .before .before .before .before .before .before .before 
     let a = c .before .before .before .before .before .before .before .before .before .before .a .given .0 .0 in let b = c .before .before .before .before .before .before .b .given .0 .0 in let d = c .before .before .c .given .0 .0 in
     some-word (c .before .before .before .before .before .before .before .before .before .before .before .before .before .before .args .op) _ (pos a ∷ (pos b ∷ (pos d ∷ []))) (parts (c .before .before .before .before .before .before .before .before .before .before .before .before .before .before .args .op) a b d 0) (first-got look register register (register ∷ []) (drop (c .before .before .before .before .before .before .before .before .before .before .before .before .before .before .args .at) s) (pos a) (drop (c .before .before .before .before .before .before .before .before .before .before .a .given .0 .1 .0) s) (some (pos b ∷ (pos d ∷ []))) (c .before .before .before .before .before .before .before .before .before .before .before .before .register-comma .ensures .0 ∙ ap (regSeen s) (c .before .before .before .before .before .before .before .before .before .before .a .given .1))
     (first-got look register register [] (drop (c .before .before .before .before .before .before .before .before .before .before .a .given .0 .1 .0) s) (pos b) (drop (c .before .before .before .before .before .before .b .given .0 .1 .0) s) (some (pos d ∷ [])) (c .before .before .before .before .before .before .before .before .register-comma2 .ensures .0 ∙ ap (regSeen s) (c .before .before .before .before .before .before .b .given .1))
-    (last-some look register (drop (c .before .before .before .before .before .before .b .given .0 .1 .0) s) (pos d) _ (c .before .before .before .before .register-last .ensures .0 ∙ ap (regSeen s) (c .before .before .c .given .1))))) refl (kept-three (c .before .before .before .before .before .before .before .before .before .before .before .before .before .before .args .op) a b d (c .before .before .before .before .before .before .before .before .before .before .before .before .before .before .pre)) ∙ c .word .ensures
+    (last-some look register (drop (c .before .before .before .before .before .before .b .given .0 .1 .0) s) (pos d) _ (c .before .before .before .before .register-last .ensures .0 ∙ ap (regSeen s) (c .before .before .c .given .1))))) (parts-three (c .before .before .before .before .before .before .before .before .before .before .before .before .before .before .args .op) a b d (c .before .before .before .before .before .before .before .before .before .before .before .before .before .before .pre)) ∙ c .word .ensures
 
 pub three-registers-spec : {M : Type 1} → statement M
 three-registers-spec =

@@ -1,7 +1,7 @@
 use Rattle.words.specs.Words.{encodedIn}
 use borrow.Author.Needs.{needs}
-use Rattle.words.proofs.encoder.encoded.Statement.{statement}
-use Rattle.words.proofs.encoder.encoded.Tie as tie
+use Rattle.words.proofs.encoder.encode_parts.Statement.{statement}
+use Rattle.words.proofs.encoder.encode_parts.Tie as tie
 
 parts-fit-requires : tie.Need-parts-fit-requires
 parts-fit-requires c κs = search needs
@@ -26,8 +26,8 @@ returns-2 : tie.Need-returns-2
 unfolding encodedIn
 returns-2 c = rw (← c .before .parts-fit .ensures, c .if1 .left)
 
-pub encoded-spec : {M : Type 1} → statement M
-encoded-spec =
+pub encode-parts-spec : {M : Type 1} → statement M
+encode-parts-spec =
     tie.close
     (tie.spec
     parts-fit-requires
