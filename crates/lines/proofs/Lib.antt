@@ -1,4 +1,5 @@
 pub mod Complete
+pub mod Ends
 pub mod Sound
 pub mod Steps
 pub mod Words

@@ -1,6 +1,6 @@
 -- Inner: what the answers say of the line that was read.
 use Prim.Native.Nat.{ℕ, _+_, _≤_}
-use mathlib.Core.Bool.{Bool, true, false, cond, _&&_}
+use mathlib.Core.Bool.{Bool, true, false, cond, _&&_, _||_}
 use mathlib.Core.List.{List}
 use mathlib.Core.Option.{Option}
 use lib.Dec.{eqb, leb}
@@ -65,6 +65,10 @@ namedAt s at e = cond (eqb (headOf (skip (drop e s))) 58) (cond (nothing (skip (
 abbrev pub startAt : List ℕ → ℕ → Start
 startAt s at =
     cond (nothing (drop at s)) Start.Blank (cond (isLetter (headOf (drop at s))) (namedAt s at (at + length (nameAt s at))) Start.Other)
+
+-- a line that ends in another byte is neither blank nor a definition
+abbrev pub isEnd : ℕ → Bool
+isEnd b = isSpace b || eqb b 58
 
 unfoldable pub startOf : List ℕ → Start
 startOf s = startAt s (length (run isSpace s))

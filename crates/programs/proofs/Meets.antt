@@ -1,14 +1,15 @@
 -- What is met of one line, and what that leaves of the labels. Assumes nothing.
 use mathlib.Core.Path.{_≡_, refl, sym, ap, _∙_, subst}
-use mathlib.Core.Bool.{Bool, true, false, cond}
+use mathlib.Core.Bool.{Bool, true, false, cond, not}
 use mathlib.Core.List.{List, [], _∷_}
-use Prim.Native.Nat.{ℕ, _+_, _-_, _*_, _≤_, _<_}
+use Prim.Native.Nat.{ℕ, zero, suc, _+_, _-_, _*_, _≤_, _<_}
+use native.Mathlib.Numerals.{sub-one}
 use native.Mathlib.Omega.{arith}
-use lib.Dec.{leb}
+use lib.Dec.{eqb, leb}
 use lib.IntN.{ℤ}
-use lib.ListN.{length, take, drop}
+use lib.ListN.{length, getD, take, drop}
 use lib.Seq.{length-sets}
-use borrow.Author.Tests.{leb-true, leb-false}
+use borrow.Author.Tests.{leb-true, leb-false, ne-eqb, not-true}
 use Rattle.labels.specs.Bytes.{isLetter, headOf}
 use Rattle.labels.specs.Reading.{nameAt}
 use Rattle.labels.specs.Table.{keyOf, slotsOf, searchIn, notedBy, withLabel}
@@ -25,12 +26,13 @@ use Rattle.memory.specs.Bytes.{numberOfBytes}
 use Rattle.names.specs.Names.{nameNumber}
 use Rattle.lines.specs.Lines.{toldBy, named, wrong, kindsOf, wordOf}
 use Rattle.lines.specs.Reader.{lineRead, instructionRead, operandsRead}
-use Rattle.lines.specs.Code.{startOf}
+use Rattle.lines.specs.Code.{isEnd, startOf}
 use Rattle.lines.specs.declared.Start.{Start}
 use Rattle.lines.specs.declared.Start.the-variants as Start
 use Rattle.lines.proofs.Starts.{Started, began}
+use Rattle.lines.proofs.Ends.{plain-start}
 use Rattle.programs.specs.Programs.{noLabels, labelsFrom}
-use Rattle.programs.specs.Code.{tellersOf, Spans, secondBy, counted, After, after, defined, slotAfter, labelAfter, startAfter, lineAfter}
+use Rattle.programs.specs.Code.{tellersOf, Spans, secondBy, counted, After, after, defined, slotAfter, labelAfter, startAfter, isPlain, lineAfter}
 use Rattle.programs.specs.declared.spans.Span.{Span}
 use Rattle.programs.specs.declared.noting.Tally.{Tally}
 use Rattle.programs.specs.declared.noting.Met.{Met}
@@ -125,3 +127,14 @@ module _ (text table : List ℕ) (at before : ℕ) (t : Tally) (g : Noting text 
   pub kept-short : (new : List ℕ) → after Met.Short new ≡ lineAfter text table (take (r .stop - at) (drop at text)) at (before + 1) t
       → (length new < 3 * length (labelsFrom (tellersOf text) 0)) × (length new ≡ length table)
   kept-short new e = subst Kept (sym e) kept
+
+-- ---- a line that is an instruction by its last byte
+pub plain-after : (text table s : List ℕ) (at line : ℕ) (t : Tally) → isPlain s ≡ true → after (Met.Go (counted t)) table ≡ lineAfter text table s at line t
+unfolding lineAfter
+plain-after text table s at line t h = sym (go (length s) refl h)
+  where
+    go : (n : ℕ) → length s ≡ n → cond (eqb n 0) false (not (isEnd (getD s (n - 1) 0))) ≡ true → startAfter text table (startOf s) at line t ≡ after (Met.Go (counted t)) table
+    go zero q h = absurd (let z : _≡_ {A = ℕ} 0 1 = cc in omega arith)
+    go (suc k) q h =
+        let i : isEnd (getD s (suc k - 1) 0) ≡ false = not-true _ (sym (ap (λ (b : Bool). cond b false (not (isEnd (getD s (suc k - 1) 0)))) (ne-eqb (suc k) 0 (λ z. omega arith))) ∙ h) in
+        plain-start (λ x. startAfter text table x at line t) (after (Met.Go (counted t)) table) s k q (ap (λ (m : ℕ). isEnd (getD s m 0)) (sym (sub-one (suc k))) ∙ i) (λ p e. refl) refl

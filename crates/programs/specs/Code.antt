@@ -5,14 +5,14 @@ use mathlib.Core.List.{List, [], _∷_, _++_, map}
 use mathlib.Core.Option.{Option, none, some}
 use mathlib.Core.Path.{_≡_}
 use lib.Dec.{eqb, leb}
-use lib.ListN.{length, take, drop}
+use lib.ListN.{length, getD, take, drop}
 use Rattle.labels.specs.Reading.{nameAt}
 use Rattle.labels.specs.Table.{keyOf, slotsOf, searchIn, indexIn, withLabel}
 use Rattle.labels.specs.declared.table.Slot.{Slot}
 use Rattle.labels.specs.declared.table.Slot.the-variants as Slot
 use Rattle.lines.specs.Lines.{Told}
 use Rattle.lines.specs.Reader.{lineRead}
-use Rattle.lines.specs.Code.{startOf, labelsIn}
+use Rattle.lines.specs.Code.{isEnd, startOf, labelsIn}
 use Rattle.lines.specs.declared.Start.{Start}
 use Rattle.lines.specs.declared.Start.the-variants as Start
 use Rattle.programs.specs.Programs.{linesOf, Teller, Label, labelAt, onTold, noLabels, labelsFrom, indexOf}
@@ -100,6 +100,10 @@ startAfter text table Start.Blank at line t = after (Met.Go t) table
 startAfter text table (Start.Label p) at line t = labelAfter text table (at + p) line t
 startAfter text table (Start.Word p e) at line t = after (Met.Go (counted t)) table
 startAfter text table Start.Other at line t = after (Met.Go (counted t)) table
+
+-- a line that is not empty and ends in neither a space nor a colon
+abbrev pub isPlain : List ℕ → Bool
+isPlain s = cond (eqb (length s) 0) false (not (isEnd (getD s (length s - 1) 0)))
 
 unfoldable pub lineAfter : List ℕ → List ℕ → List ℕ → ℕ → ℕ → Tally → After
 lineAfter text table s at line t = startAfter text table (startOf s) at line t

@@ -7,7 +7,7 @@ use lines::start_of;
 ghost use mathlib.Core.Path.{_≡_};
 ghost use Prim.Native.Nat.{_+_, _<_, _^_, _-_};
 ghost use lib.ListN.{length, replicate};
-ghost use Rattle.programs.specs.Code.{counted, secondBy, after, labelAfter, lineAfter, NotedAll};
+ghost use Rattle.programs.specs.Code.{counted, secondBy, after, labelAfter, isPlain, lineAfter, NotedAll};
 
 // What was met so far: instructions, definitions of labels, and the number of the first line that defines one again, or 0.
 pub(crate) struct Tally {
@@ -66,11 +66,26 @@ fn note_label(text: &[u8], table: &mut [u64], place: usize, line: u64, t: Tally)
     }
 }
 
+// Whether a line's last byte already tells that it is an instruction, right or wrong.
+fn is_plain(s: &[u8]) -> bool
+    ensures { λ r. ⌜ r ≡ isPlain (now (s .entry)) ⌝ }
+{
+    let n = s.len();
+    if n == 0 {
+        return false;
+    }
+    let c = s[n - 1];
+    !((c == b' ') | (c == b':'))
+}
+
 // A line of the text, from a place on.
 fn note_line(text: &[u8], table: &mut [u64], s: &[u8], at: usize, line: u64, t: Tally) -> Met
     requires { ⌜ (t .own < 2 ^ 64 - 1) × (at + length (now s) < 2 ^ 64) ⌝ }
     ensures { λ r. ⌜ after r (now (table .exit)) ≡ lineAfter (now (text .entry)) (now (table .entry)) (now (s .entry)) at line t ⌝ }
 {
+    if is_plain(s) {
+        return Met::Go(one_more(t));
+    }
     match start_of(s) {
         Start::Blank => Met::Go(t),
         Start::Label(p) => note_label(text, table, at + p, line, t),
