@@ -7,11 +7,10 @@ use Prim.Native.Nat.{ℕ, zero, suc, _+_, _-_, _≤_, _<_}
 use native.Mathlib.Omega.{arith}
 use lib.Dec.{eqb, leb, ltb}
 use borrow.Author.Tests.{eq-eqb, ne-eqb, eqb-true, eqb-false, leb-true, leb-false, lt-ltb, le-ltb, ltb-true, ltb-false}
-use native.Mathlib.Nat.{mod-lt}
 use Rattle.labels.specs.Table.{keyOf, slotsOf, keyAt, homeOf, nextOf, holds, searchFrom, searchIn}
 use Rattle.labels.specs.declared.table.Slot.{Slot}
 use Rattle.labels.specs.declared.table.Slot.the-variants.{Held, Free, Full}
-use Rattle.labels.proofs.Searches.{next-below}
+use Rattle.labels.proofs.Searches.{next-below, home-below}
 use Rattle.labels.proofs.Noting.{Changed}
 
 -- of the first n slots, those that are taken
@@ -103,7 +102,7 @@ module _ (text table name : List ℕ) (k : ℕ) (b : k < slotsOf table) where
 pub full-all : (text table name : List ℕ) → searchIn text table name ≡ Full → (j : ℕ) → j < slotsOf table → keyAt table j ≡ 0 → ⊥
 unfolding searchIn
 full-all text table name f j h =
-    let b : homeOf (keyOf name) (slotsOf table) < slotsOf table = mod-lt _ (omega arith) in
+    let b = home-below (keyOf name) (slotsOf table) (omega arith) in
     let k = homeOf (keyOf name) (slotsOf table) in
     let t = at-some (slotsOf table) k b j h in
     seen text table name k b (slotsOf table) 0 k (omega arith) b (inl (omega arith)) f (t .0) j (omega arith) (t .1 .0) (t .1 .1) h

@@ -2,17 +2,17 @@
 use mathlib.Core.Path.{_≡_, refl, sym, ap, _∙_, subst}
 use mathlib.Core.Bool.{Bool, true, false, cond, _&&_}
 use mathlib.Core.List.{List, [], _∷_}
-use Prim.Native.Nat.{ℕ, zero, suc, _+_, _-_, _<_}
-use native.Mathlib.Nat.{mod-lt}
+use Prim.Native.Nat.{ℕ, zero, suc, _+_, _-_, _*_, _/_, _^_, _≤_, _<_}
+use native.Mathlib.Nat.{mod-lt, mul-lt-mul-of-pos-right}
 use native.Mathlib.Omega.{arith}
 use native.Mathlib.Numerals.{add-one, add-two, sub-one}
 use lib.ListN.{set}
 use lib.Seq.{sets}
-use borrow.Author.Tests.{eq-eqb, ne-eqb, eqb-false}
-use lib.Dec.{eqb}
+use borrow.Author.Tests.{eq-eqb, ne-eqb, eqb-false, ltb-false, lt-ltb, le-ltb}
+use lib.Dec.{eqb, ltb}
 use Rattle.labels.specs.Bytes.{eqBytes}
 use Rattle.labels.specs.Reading.{nameAt}
-use Rattle.labels.specs.Table.{keyOf, slotsOf, placeAt, keyAt, homeOf, nextOf, holds, searchFrom, searchIn}
+use Rattle.labels.specs.Table.{keyOf, slotsOf, placeAt, keyAt, spreadOf, homeOf, nextOf, holds, searchFrom, searchIn}
 use Rattle.labels.specs.declared.table.Slot.{Slot}
 use Rattle.labels.specs.declared.table.Slot.the-variants.{Held, Free, Full}
 
@@ -36,6 +36,30 @@ module _ (text table name : List ℕ) (k : ℕ) where
   search-on left n e h = search-turn left n ∙ simp (ne-eqb _ _ e, h)
 
 -- ---- a slot that a search ends at is one of the table's
+pub spread-below : (key slots : ℕ) → 0 < slots → spreadOf key * slots < 2 ^ 32 * slots
+spread-below key slots h = mul-lt-mul-of-pos-right (mod-lt _ (omega arith)) h
+
+pub home-below : (key slots : ℕ) → 0 < slots → homeOf key slots < slots
+home-below key slots h = go (ltb slots (2 ^ 32)) refl
+  where
+    go : (t : Bool) → ltb slots (2 ^ 32) ≡ t → cond t (spreadOf key * slots / 2 ^ 32) (spreadOf key) < slots
+    go true e = omega (arith, spread-below key slots h)
+    go false e = let g = ltb-false slots (2 ^ 32) e in let l : spreadOf key < 2 ^ 32 = mod-lt _ (omega arith) in omega arith
+
+-- what the code computes, where h is the key spread
+module _ (key slots h : ℕ) (e : h ≡ spreadOf key) (s : 0 < slots) where
+  pub home-fits : slots < 2 ^ 32 → h * slots < 2 ^ 64
+  home-fits l = let b : h * slots < 2 ^ 32 * slots = subst (λ (n : ℕ). n * slots < 2 ^ 32 * slots) (sym e) (spread-below key slots s) in omega arith
+
+  at-home : (r : ℕ) → r ≡ homeOf key slots → (r ≡ homeOf key slots) × (r < slots)
+  at-home r q = (q, subst (_< slots) (sym q) (home-below key slots s))
+
+  pub home-scaled : slots < 2 ^ 32 → (h * slots / 2 ^ 32 ≡ homeOf key slots) × (h * slots / 2 ^ 32 < slots)
+  home-scaled l = at-home (h * slots / 2 ^ 32) (rw (lt-ltb slots (2 ^ 32) l, e))
+
+  pub home-whole : 2 ^ 32 ≤ slots → (h ≡ homeOf key slots) × (h < slots)
+  home-whole l = at-home h (rw (le-ltb slots (2 ^ 32) l, e))
+
 pub next-below : (slots k : ℕ) → k < slots → nextOf slots k < slots
 next-below slots k h = go (eqb (k + 1) slots) refl
   where
@@ -65,7 +89,7 @@ module _ (text table name : List ℕ) where
 
   search-below : slotBelow (slotsOf table) (searchIn text table name)
   unfolding searchIn
-  search-below = from-below (slotsOf table) (homeOf (keyOf name) (slotsOf table)) (λ n. mod-lt _ (omega (arith, n)))
+  search-below = from-below (slotsOf table) (homeOf (keyOf name) (slotsOf table)) (λ n. home-below (keyOf name) (slotsOf table) (omega (arith, n)))
 
   pub held-below : (k : ℕ) → searchIn text table name ≡ Held k → k < slotsOf table
   held-below k e = subst (slotBelow (slotsOf table)) e search-below

@@ -5,7 +5,7 @@ use Prim.Native.Nat.{ℕ, zero, suc, _+_, _*_, _/_, _%_, _^_}
 use mathlib.Core.Bool.{Bool, cond, _&&_}
 use mathlib.Core.List.{List, [], _∷_}
 use mathlib.Core.Option.{Option, none, some}
-use lib.Dec.{eqb}
+use lib.Dec.{eqb, ltb}
 use lib.ListN.{length, getD}
 use lib.Seq.{sets}
 use Rattle.labels.specs.Bytes.{eqBytes}
@@ -42,9 +42,13 @@ keyAt table k = getD table (3 * k + 1) 0
 abbrev pub indexAt : List ℕ → ℕ → ℕ
 indexAt table k = getD table (3 * k + 2) 0
 
--- keys are spread by products: names that end alike have homes apart
+-- keys are spread by products, so that names that end alike have homes apart; a product with the number of slots then takes the place
+-- of a remainder, which would be a division
+abbrev pub spreadOf : ℕ → ℕ
+spreadOf key = (key % 2 ^ 32 * 1640531527 + key / 2 ^ 32 * 1540483477) % 2 ^ 32
+
 abbrev pub homeOf : ℕ → ℕ → ℕ
-homeOf key slots = (key % 2 ^ 32 * 1640531527 + key / 2 ^ 32 * 1540483477) / 2 ^ 20 % slots
+homeOf key slots = cond (ltb slots (2 ^ 32)) (spreadOf key * slots / 2 ^ 32) (spreadOf key)
 
 abbrev pub nextOf : ℕ → ℕ → ℕ
 nextOf slots k = cond (eqb (k + 1) slots) 0 (k + 1)

@@ -97,8 +97,12 @@ fn home(w: u64, slots: usize) -> usize
     requires { ⌜ 0 < slots ⌝ }
     ensures { λ r. ⌜ (r ≡ homeOf w slots) × (r < slots) ⌝ }
 {
-    let spread = w % 0x1_0000_0000 * 1_640_531_527 + w / 0x1_0000_0000 * 1_540_483_477;
-    place(spread / 0x10_0000) % slots
+    let sum = w % 0x1_0000_0000 * 1_640_531_527 + w / 0x1_0000_0000 * 1_540_483_477;
+    let spread = place(sum % 0x1_0000_0000);
+    if slots < 0x1_0000_0000 {
+        return spread * slots / 0x1_0000_0000;
+    }
+    spread
 }
 
 fn next(k: usize, slots: usize) -> usize

@@ -5,14 +5,14 @@ use mathlib.Core.List.{List, [], _∷_, _++_}
 use Prim.Native.Nat.{ℕ, zero, suc, _+_, _-_, _≤_, _<_}
 use native.Mathlib.Omega.{arith}
 use lib.Dec.{eqb}
-use lib.ListN.{length, getD, take, drop, length-append, length-drop, drop-of-length-le}
-use lib.Seq.{take-at, getD-drop}
+use lib.ListN.{length, getD, take, drop, length-append, take-append-drop, length-drop, drop-of-length-le}
+use lib.Seq.{take-at, getD-drop, drop-drop}
 use borrow.Author.Tests.{eq-eqb, ne-eqb, eqb-true}
-use Rattle.labels.specs.Bytes.{headOf}
+use Rattle.labels.specs.Bytes.{every, headOf}
 use Rattle.labels.specs.Reading.{tailOf, run, past, Passed}
 use Rattle.lines.specs.Reader.{nothing}
 use Rattle.lines.proofs.Steps.{nothing-end, nothing-not}
-use Rattle.labels.proofs.Spans.{run-past, tail-drop, head-drop, past-on}
+use Rattle.labels.proofs.Spans.{run-past, tail-drop, head-drop, past-on, past-append}
 use Rattle.labels.proofs.Steps.{Going, stops}
 use Rattle.programs.specs.Programs.{push, linesOf}
 use Rattle.programs.specs.Code.{isText, stripped}
@@ -146,6 +146,28 @@ module _ (s : List ℕ) (at n : ℕ) (o : at ≤ n) (l : n < length s) where
       ap (λ (k : ℕ). take k (drop at s)) (sym f) ∙ sym (strip-none (drop at s) (n - at - 1) (let m = length-drop at s in omega arith) (λ z. c (sym (last-byte h) ∙ z))) ∙ ap (λ (k : ℕ). stripped true (take k (drop at s))) f
 
 -- ---- the search for an LF
+one-more : (p : ℕ → Bool) (t : List ℕ) (k : ℕ) → k < length t → every p (take (suc k) t) ≡ (every p (take k t) && p (getD t k 0))
+unfolding every
+one-more p [] k h = absurd (omega arith)
+one-more p (b ∷ t) zero h = go (p b)
+  where
+    go : (x : Bool) → x && true ≡ x
+    go true = refl
+    go false = refl
+one-more p (b ∷ t) (suc k) h = ap (p b &&_) (one-more p t k (omega arith)) ∙ go (p b) (every p (take k t)) (p (getD t k 0))
+  where
+    go : (x y z : Bool) → x && (y && z) ≡ (x && y) && z
+    go true y z = refl
+    go false y z = refl
+
+-- one byte more that is looked at
+pub looked : (s : List ℕ) (n k : ℕ) → n + k < length s → every isText (take (suc k) (drop n s)) ≡ (every isText (take k (drop n s)) && isText (getD s (n + k) 0))
+looked s n k h = one-more isText (drop n s) k (rw length-drop (omega arith)) ∙ ap (λ (b : ℕ). every isText (take k (drop n s)) && isText b) (getD-drop n s k 0)
+
+pub looked-first : (s : List ℕ) (n : ℕ) → n < length s → every isText (take 1 (drop n s)) ≡ isText (getD s n 0)
+unfolding every
+looked-first s n h = let e : n + 0 ≡ n = omega arith in looked s n 0 (omega arith) ∙ ap (λ (k : ℕ). isText (getD s k 0)) e
+
 module _ (s : List ℕ) (at n : ℕ) (g : Going isText s at n) where
   pub feed-end : length s ≤ n → Passed isText s at n
   unfolding past
@@ -164,9 +186,16 @@ module _ (s : List ℕ) (at n : ℕ) (g : Going isText s at n) where
         beyond = λ k. let b = g .beyond k in absurd (omega arith);
       }
 
-  -- a byte that is no LF, and the next place
-  pub feed-next : n < length s → (getD s n 0 ≡ 10 → ⊥) → (m : ℕ) → m ≡ n + 1 → Going isText s at m
-  feed-next h e m q = subst (Going isText s at) (sym q) (feed-on h e)
+  -- so many bytes that are no LF
+  pub feed-far : (k : ℕ) → n + k ≤ length s → every isText (take k (drop n s)) ≡ true → Going isText s at (n + k)
+  feed-far k h e =
+      let o = g .on in
+      record {
+        from = g .from ∙ ap (past isText) (sym (take-append-drop k (drop n s))) ∙ past-append isText (take k (drop n s)) (drop k (drop n s)) e ∙ ap (past isText) (drop-drop k n s);
+        on = omega arith;
+        within = λ i. h;
+        beyond = λ i. let b = g .beyond i in omega arith;
+      }
 
   -- from there on somebody else looks
   pub feed-rest : (r : ℕ) → Passed isText s n r → Passed isText s at r

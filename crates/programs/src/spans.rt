@@ -2,8 +2,9 @@
 use labels::text::byte;
 ghost use mathlib.Core.Path.{_≡_};
 ghost use mathlib.Core.Bool.{true};
-ghost use Prim.Native.Nat.{_-_, _≤_, _<_};
+ghost use Prim.Native.Nat.{_+_, _-_, _≤_, _<_};
 ghost use lib.ListN.{length, take, drop};
+ghost use Rattle.labels.specs.Bytes.{every};
 ghost use Rattle.labels.specs.Reading.{Passed};
 ghost use Rattle.programs.specs.Code.{isText, stripped, Spans};
 
@@ -30,29 +31,35 @@ fn next_feed(s: &[u8], at: usize) -> usize
     }
 }
 
-// The same, four bytes a turn.
+// Whether none of eight bytes is an LF: `&` tests all eight, so that the machine can do so at once.
+fn eight_are_text(s: &[u8], n: usize) -> bool
+    requires { ⌜ n + 8 ≤ length (now s) ⌝ }
+    ensures { λ r. ⌜ r ≡ every isText (take 8 (drop n (now (s .entry)))) ⌝ }
+{
+    (s[n] != 10)
+        & (s[n + 1] != 10)
+        & (s[n + 2] != 10)
+        & (s[n + 3] != 10)
+        & (s[n + 4] != 10)
+        & (s[n + 5] != 10)
+        & (s[n + 6] != 10)
+        & (s[n + 7] != 10)
+}
+
+// The same, eight bytes a turn.
 fn line_feed(s: &[u8], at: usize) -> usize
     requires { ⌜ at ≤ length (now s) ⌝ }
     ensures { λ r. ⌜ Passed isText (now (s .entry)) at r ⌝ }
 {
     let mut n = at;
     loop {
-        if s.len() - n < 4 {
+        if s.len() - n < 8 {
             return next_feed(s, n);
         }
-        if s[n] == 10 {
-            return n;
+        if !eight_are_text(s, n) {
+            return next_feed(s, n);
         }
-        if s[n + 1] == 10 {
-            return n + 1;
-        }
-        if s[n + 2] == 10 {
-            return n + 2;
-        }
-        if s[n + 3] == 10 {
-            return n + 3;
-        }
-        n += 4;
+        n += 8;
     }
 }
 

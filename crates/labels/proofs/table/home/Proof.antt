@@ -1,7 +1,5 @@
-use native.Mathlib.Nat.{mod-lt}
 use native.Mathlib.Omega.{arith}
-use Prim.Native.Nat.{ℕ, _%_}
-use mathlib.Core.Path.{_≡_, ap}
+use Rattle.labels.proofs.Searches.{home-fits, home-scaled, home-whole}
 use borrow.Author.Needs.{needs}
 use Rattle.labels.proofs.table.home.Statement.{statement}
 use Rattle.labels.proofs.table.home.Tie as tie
@@ -9,30 +7,34 @@ use Rattle.labels.proofs.table.home.Reads as reads
 use Rattle.labels.proofs.table.home.Lts as lts
 use Rattle.labels.proofs.table.place.Reads as place-reads
 
--- src/table.rt:93:18
-mul-spread : tie.Need-mul-spread
-mul-spread c = search needs
+-- src/table.rt:100:15
+mul-sum : tie.Need-mul-sum
+mul-sum c = search needs
 
--- src/table.rt:93:54
-mul-spread-2 : tie.Need-mul-spread-2
-mul-spread-2 c = search needs
+-- src/table.rt:100:51
+mul-sum-2 : tie.Need-mul-sum-2
+mul-sum-2 c = search needs
 
--- src/table.rt:93:18
-add-spread : tie.Need-add-spread
-add-spread c = search needs
+-- src/table.rt:100:15
+add-sum : tie.Need-add-sum
+add-sum c = search needs
 
--- src/table.rt:94:5
+-- src/table.rt:101:9
 place-requires : tie.Need-place-requires
 place-requires c κs = search needs
 
--- src/table.rt:94:5
-rem-result : tie.Need-rem-result
-rem-result c = search needs
+-- src/table.rt:103:16
+mul-result : tie.Need-mul-result
+mul-result c = omega (arith, home-fits (c .before .before .args .w) (c .before .before .args .slots) (c .before .place .result) (c .before .place .ensures) (c .before .before .pre) (c .if1 .taken))
 
--- src/table.rt:89:1
+-- src/table.rt:103:9
 returns : tie.Need-returns
-returns c = (ap (λ (n : ℕ). n % c .before .args .slots) (c .place .ensures), mod-lt _ (omega arith))
+returns c = home-scaled (c .before .before .args .w) (c .before .before .args .slots) (c .before .place .result) (c .before .place .ensures) (c .before .before .pre) (c .if1 .taken)
+
+-- src/table.rt:96:1
+returns-2 : tie.Need-returns-2
+returns-2 c = home-whole (c .before .before .args .w) (c .before .before .args .slots) (c .before .place .result) (c .before .place .ensures) (c .before .before .pre) (c .if1 .left)
 
 pub home-spec : {M : Type 1} → statement M
 home-spec =
-    tie.close (tie.spec mul-spread mul-spread-2 add-spread place-requires rem-result returns)
+    tie.close (tie.spec mul-sum mul-sum-2 add-sum place-requires mul-result returns returns-2)
