@@ -1,12 +1,12 @@
 -- How a line begins, and what it then says. Assumes nothing.
 use mathlib.Core.Path.{_≡_, refl, sym, ap, _∙_, subst}
 use mathlib.Core.Bool.{Bool, true, false, cond}
-use mathlib.Core.List.{List, []}
-use mathlib.Core.Option.{Option, none, some}
-use Prim.Native.Nat.{ℕ, _+_, _≤_, _<_}
+use mathlib.Core.List.{List}
+use mathlib.Core.Option.{Option}
+use Prim.Native.Nat.{ℕ, _+_, _^_, _≤_, _<_}
 use native.Mathlib.Nat.{zero-add}
 use native.Mathlib.Omega.{arith}
-use lib.Dec.{eqb}
+use lib.Dec.{eqb, ltb}
 use lib.IntN.{ℤ}
 use lib.ListN.{length, drop}
 use borrow.Author.Tests.{eq-eqb, ne-eqb, eqb-true}
@@ -18,9 +18,9 @@ use Rattle.labels.specs.Bytes.{isSpace, isLetter, isPart, headOf}
 use Rattle.labels.specs.Reading.{tailOf, run, past, skip, nameAt, Passed}
 use Rattle.labels.proofs.Spans.{tail-drop}
 use Rattle.labels.proofs.Steps.{class-inside, passed}
-use Rattle.lines.specs.Lines.{Told, empty, named, wrong, toldBy}
+use Rattle.lines.specs.Lines.{Told, empty, named, word, wrong}
 use Rattle.lines.specs.Reader.{nothing, instructionRead, wordRead, lineRead}
-use Rattle.lines.specs.Code.{saidOf, namedAt, startAt, startOf}
+use Rattle.lines.specs.Code.{wordSaid, saidBy, saidOf, namedAt, startAt, startOf}
 use Rattle.lines.specs.declared.Said.{Said}
 use Rattle.lines.specs.declared.Said.the-variants as Said
 use Rattle.lines.specs.declared.Start.{Start}
@@ -121,9 +121,9 @@ module _ (s : List ℕ) (at : ℕ) (p : at ≡ 0 + length (run isSpace (drop 0 s
     start-label c m e b = ap (λ (t : Bool). cond t (Start.Label at) Start.Other) (sym (ap nothing (sym (passed isSpace s (n + 1) m e .rest)) ∙ nothing-end s m b)) ∙ colon c
 
 -- ---- an instruction's answer names no label
-pub said-any : (o : Option ℕ) (s : List ℕ) (r : Said) → toldBy o ≡ saidOf [] r → toldBy o ≡ saidOf s r
-said-any o s Said.Blank e = e
-said-any none s Said.Name e = absurd (let z : _≡_ {A = ℕ} 0 1 = cc in omega arith)
-said-any (some w) s Said.Name e = absurd (let z : _≡_ {A = ℕ} 0 1 = cc in omega arith)
-said-any o s (Said.Word w) e = e
-said-any o s Said.Bad e = e
+pub word-said : (s : List ℕ) (w : ℕ) → wordSaid w ≡ saidOf s (saidBy w)
+word-said s w = go (ltb w (2 ^ 32))
+  where
+    go : (c : Bool) → cond c (word w) wrong ≡ saidOf s (cond c (Said.Word w) Said.Bad)
+    go true = refl
+    go false = refl

@@ -9,7 +9,7 @@ use lib.Dec.{eqb, ltb}
 use lib.IntN.{ℤ, pos}
 use mir.Syntax.{w64}
 use mir.Val.{ofZ}
-use borrow.Author.Tests.{ltb-true, ltb-false}
+use borrow.Author.Tests.{ltb-true, ltb-false, lt-ltb}
 use Rattle.opcode.specs.Opcodes.{opcodeNumber, formOf}
 use Rattle.opcode.specs.declared.Opcode.{Opcode}
 use Rattle.opcode.specs.declared.Form.{Form}
@@ -24,9 +24,9 @@ use Rattle.sums.specs.Code.{of64}
 use Rattle.lines.proofs.Steps.{nothing-end, nothing-not}
 use lib.ListN.{length, drop}
 use Rattle.sums.proofs.Differences.{dif-ge, dif-lt}
-use Rattle.lines.specs.Lines.{Kind, register, immediate, kindsOf, push, bits, parts, partsBy, wordIn, wordOf, toldBy, Told}
+use Rattle.lines.specs.Lines.{Kind, register, immediate, kindsOf, push, bits, parts, partsBy, wordIn, wordOf, toldBy, Told, word, wrong}
 use Rattle.lines.specs.Reader.{operandRead, nothing, with, operandsRead}
-use Rattle.lines.specs.Code.{commaRead, lastRead, isNumbered}
+use Rattle.lines.specs.Code.{commaRead, lastRead, wordSaid, isNumbered}
 
 -- ---- operands, one by one
 module _ (look : List ℕ → Option ℤ) where
@@ -79,6 +79,9 @@ none-word op o e = ap (λ (x : Option (List ℤ)). toldBy (wordOf op x)) e
 pub some-word : (op : Opcode) (o : Option (List ℤ)) (vs : List ℤ) (p : Parts) → o ≡ some vs → partsBy op (formOf op) vs ≡ p → toldBy (wordOf op o) ≡ toldBy (wordIn (encodedIn opcodeNumber p))
 unfolding wordOf
 some-word op o vs p e q = ap (λ (x : Option (List ℤ)). toldBy (wordOf op x)) e ∙ ap (λ (x : Parts). toldBy (wordIn (encodedIn opcodeNumber x))) q
+
+pub word-is : (w n : ℕ) → n ≡ w → n < 2 ^ 32 → word w ≡ wordSaid n
+word-is w n e h = ap word (sym e) ∙ sym (ap (λ (c : Bool). cond c (word n) wrong) (lt-ltb n (2 ^ 32) h))
 
 module _ (op : Opcode) (a b : ℕ) where
   pub parts-three : (c : ℕ) → formOf op ≡ R → partsBy op (formOf op) (pos a ∷ (pos b ∷ (pos c ∷ []))) ≡ parts op a b c 0

@@ -1,9 +1,9 @@
 -- Inner: what the answers say of the line that was read.
-use Prim.Native.Nat.{ℕ, _+_, _≤_}
+use Prim.Native.Nat.{ℕ, _+_, _^_, _≤_}
 use mathlib.Core.Bool.{Bool, true, false, cond, _&&_, _||_}
 use mathlib.Core.List.{List}
 use mathlib.Core.Option.{Option}
-use lib.Dec.{eqb, leb}
+use lib.Dec.{eqb, leb, ltb}
 use lib.IntN.{ℤ, pos}
 use lib.ListN.{length, drop}
 use Rattle.opcode.specs.declared.Form.{Form}
@@ -47,6 +47,13 @@ saidOf s Said.Blank = empty
 saidOf s Said.Name = named (run isPart (skip s))
 saidOf s (Said.Word w) = word w
 saidOf s Said.Bad = wrong
+
+-- a word, or a greater number where the line is wrong
+abbrev pub wordSaid : ℕ → Told
+wordSaid w = cond (ltb w (2 ^ 32)) (word w) wrong
+
+abbrev pub saidBy : ℕ → Said
+saidBy w = cond (ltb w (2 ^ 32)) (Said.Word w) Said.Bad
 
 -- the forms with two registers and a number
 abbrev pub isNumbered : Form → Bool

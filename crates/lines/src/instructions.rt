@@ -1,5 +1,4 @@
-// An instruction's operands, by its form, and its word.
-use crate::Said;
+// An instruction's operands, by its form, and its word: a number, which comes back in a register, where an enum would go through memory.
 use crate::operands::Reg;
 use crate::operands::number_last;
 use crate::operands::register_comma;
@@ -14,6 +13,7 @@ use words::Encoded;
 use words::encode_parts;
 ghost use mathlib.Core.Path.{_≡_};
 ghost use mathlib.Core.Bool.{true};
+ghost use Prim.Native.Nat.{_<_, _^_};
 ghost use mathlib.Core.List.{[]};
 ghost use lib.ListN.{drop};
 ghost use Rattle.opcode.specs.Opcodes.{opcodeNumber, formOf};
@@ -25,14 +25,23 @@ ghost use mir.Val.{ofZ};
 ghost use Rattle.sums.specs.Code.{lookIn, of64};
 ghost use Rattle.lines.specs.Lines.{kindsOf, wordIn, wordOf, toldBy};
 ghost use Rattle.lines.specs.Reader.{operandsRead, instructionRead};
-ghost use Rattle.lines.specs.Code.{isNumbered, labelsIn, saidOf};
+ghost use Rattle.lines.specs.Code.{isNumbered, labelsIn, wordSaid};
 
-fn word(p: Parts) -> Said
-    ensures { λ r. ⌜ toldBy (wordIn (encodedIn opcodeNumber p)) ≡ saidOf [] r ⌝ }
+// Instead of a word, where a line is wrong.
+pub(crate) const WRONG: u64 = 0x1_0000_0000;
+
+fn wide(w: u32) -> u64
+    ensures { λ r. ⌜ (r ≡ w) × (r < 2 ^ 32) ⌝ }
+{
+    w as u64
+}
+
+fn word(p: Parts) -> u64
+    ensures { λ r. ⌜ toldBy (wordIn (encodedIn opcodeNumber p)) ≡ wordSaid r ⌝ }
 {
     match encode_parts(p) {
-        Encoded::Word(w) => Said::Word(w),
-        Encoded::Refused(_) => Said::Bad,
+        Encoded::Word(w) => wide(w),
+        Encoded::Refused(_) => WRONG,
     }
 }
 
@@ -43,18 +52,18 @@ fn bits(v: u64) -> u64
     std::num::wrapping_add_u64(v, 0x8000_0000_0000_0000)
 }
 
-fn three_registers(s: &[u8], op: Opcode, at: usize) -> Said
+fn three_registers(s: &[u8], op: Opcode, at: usize) -> u64
     requires { ⌜ formOf op ≡ Form·.R ⌝ }
-    ensures { λ r. ⌜ toldBy (wordOf op (operandsRead (kindsOf Form·.R) (lookIn [] [] 0) (drop at (now (s .entry))))) ≡ saidOf [] r ⌝ }
+    ensures { λ r. ⌜ toldBy (wordOf op (operandsRead (kindsOf Form·.R) (lookIn [] [] 0) (drop at (now (s .entry))))) ≡ wordSaid r ⌝ }
 {
     let Reg::Of(a, m) = register_comma(s, at) else {
-        return Said::Bad;
+        return WRONG;
     };
     let Reg::Of(b, n) = register_comma(s, m) else {
-        return Said::Bad;
+        return WRONG;
     };
     let Reg::Of(c, _) = register_last(s, n) else {
-        return Said::Bad;
+        return WRONG;
     };
     word(Parts {
         op,
@@ -65,18 +74,18 @@ fn three_registers(s: &[u8], op: Opcode, at: usize) -> Said
     })
 }
 
-fn two_and_number(s: &[u8], text: &[u8], table: &[u64], base: u64, op: Opcode, at: usize) -> Said
+fn two_and_number(s: &[u8], text: &[u8], table: &[u64], base: u64, op: Opcode, at: usize) -> u64
     requires { ⌜ isNumbered (formOf op) ≡ true ⌝ }
-    ensures { λ r. ⌜ toldBy (wordOf op (operandsRead (kindsOf Form·.I) (lookIn (now (text .entry)) (now (table .entry)) base) (drop at (now (s .entry))))) ≡ saidOf [] r ⌝ }
+    ensures { λ r. ⌜ toldBy (wordOf op (operandsRead (kindsOf Form·.I) (lookIn (now (text .entry)) (now (table .entry)) base) (drop at (now (s .entry))))) ≡ wordSaid r ⌝ }
 {
     let Reg::Of(a, m) = register_comma(s, at) else {
-        return Said::Bad;
+        return WRONG;
     };
     let Reg::Of(b, n) = register_comma(s, m) else {
-        return Said::Bad;
+        return WRONG;
     };
     let Read::Value(v, _) = number_last(s, text, table, base, n) else {
-        return Said::Bad;
+        return WRONG;
     };
     word(Parts {
         op,
@@ -87,15 +96,15 @@ fn two_and_number(s: &[u8], text: &[u8], table: &[u64], base: u64, op: Opcode, a
     })
 }
 
-fn one_and_number(s: &[u8], text: &[u8], table: &[u64], base: u64, op: Opcode, at: usize) -> Said
+fn one_and_number(s: &[u8], text: &[u8], table: &[u64], base: u64, op: Opcode, at: usize) -> u64
     requires { ⌜ formOf op ≡ Form·.J ⌝ }
-    ensures { λ r. ⌜ toldBy (wordOf op (operandsRead (kindsOf Form·.J) (lookIn (now (text .entry)) (now (table .entry)) base) (drop at (now (s .entry))))) ≡ saidOf [] r ⌝ }
+    ensures { λ r. ⌜ toldBy (wordOf op (operandsRead (kindsOf Form·.J) (lookIn (now (text .entry)) (now (table .entry)) base) (drop at (now (s .entry))))) ≡ wordSaid r ⌝ }
 {
     let Reg::Of(a, m) = register_comma(s, at) else {
-        return Said::Bad;
+        return WRONG;
     };
     let Read::Value(v, _) = number_last(s, text, table, base, m) else {
-        return Said::Bad;
+        return WRONG;
     };
     word(Parts {
         op,
@@ -106,13 +115,13 @@ fn one_and_number(s: &[u8], text: &[u8], table: &[u64], base: u64, op: Opcode, a
     })
 }
 
-fn nothing_more(s: &[u8], op: Opcode, at: usize) -> Said
+fn nothing_more(s: &[u8], op: Opcode, at: usize) -> u64
     requires { ⌜ formOf op ≡ Form·.Alone ⌝ }
-    ensures { λ r. ⌜ toldBy (wordOf op (operandsRead [] (lookIn [] [] 0) (drop at (now (s .entry))))) ≡ saidOf [] r ⌝ }
+    ensures { λ r. ⌜ toldBy (wordOf op (operandsRead [] (lookIn [] [] 0) (drop at (now (s .entry))))) ≡ wordSaid r ⌝ }
 {
     let n = skip(s, at);
     if n < s.len() {
-        return Said::Bad;
+        return WRONG;
     }
     word(Parts {
         op,
@@ -131,8 +140,8 @@ pub(crate) fn instruction(
     own: u64,
     op: Opcode,
     at: usize,
-) -> Said
-    ensures { λ r. ⌜ instructionRead (Found·.Op op) (labelsIn (now (text .entry)) (now (table .entry)) own) (drop at (now (s .entry))) ≡ saidOf [] r ⌝ }
+) -> u64
+    ensures { λ r. ⌜ instructionRead (Found·.Op op) (labelsIn (now (text .entry)) (now (table .entry)) own) (drop at (now (s .entry))) ≡ wordSaid r ⌝ }
 {
     let f = form_of(op);
     match f {

@@ -2,6 +2,7 @@
 mod instructions; // instructions.rt: an instruction's operands and word
 mod operands; // operands.rt: registers and numbers
 
+use instructions::WRONG;
 use instructions::instruction;
 use labels::text::after_name;
 use labels::text::byte;
@@ -19,7 +20,7 @@ ghost use Rattle.names.specs.Names.{nameNumber};
 ghost use Rattle.labels.specs.Bytes.{isPart};
 ghost use Rattle.labels.specs.Reading.{nameAt, Passed};
 ghost use Rattle.lines.specs.Reader.{lineRead};
-ghost use Rattle.lines.specs.Code.{startOf, labelsIn, saidOf};
+ghost use Rattle.lines.specs.Code.{startOf, labelsIn, saidOf, saidBy};
 
 // How a line begins: with nothing, as the definition of the label at a place, with a name that stands from one place to another and may
 // be an instruction's, or with something else.
@@ -71,6 +72,15 @@ fn opcode_at(s: &[u8], at: usize, e: usize) -> Found
     named(number_at(s, at, n))
 }
 
+fn word_or_bad(w: u64) -> Said
+    ensures { λ r. ⌜ r ≡ saidBy w ⌝ }
+{
+    if w < WRONG {
+        return Said::Word(w as u32);
+    }
+    Said::Bad
+}
+
 // What a line of a text says, where `own` instructions stand before it.
 pub fn line(s: &[u8], text: &[u8], table: &[u64], own: u64) -> Said
     ensures { λ r. ⌜ lineRead (labelsIn (now (text .entry)) (now (table .entry)) own) (now (s .entry)) ≡ saidOf (now (s .entry)) r ⌝ }
@@ -82,7 +92,7 @@ pub fn line(s: &[u8], text: &[u8], table: &[u64], own: u64) -> Said
             let Found::Op(op) = opcode_at(s, at, e) else {
                 return Said::Bad;
             };
-            instruction(s, text, table, own, op, e)
+            word_or_bad(instruction(s, text, table, own, op, e))
         }
         Start::Other => Said::Bad,
     }

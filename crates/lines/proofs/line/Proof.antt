@@ -1,11 +1,11 @@
-use Rattle.lines.proofs.Starts.{began, said-any}
-use Rattle.lines.specs.Code.{labelsIn}
-use Rattle.lines.specs.Reader.{operandsRead, instructionRead}
-use Rattle.lines.specs.Lines.{kindsOf, wordOf, named}
-use Rattle.opcode.specs.declared.Found.{Found}
-use Rattle.opcode.specs.Opcodes.{formOf}
-use lib.ListN.{drop}
 use mathlib.Core.Path.{_≡_, sym, ap, _∙_}
+use lib.ListN.{drop}
+use Rattle.opcode.specs.declared.Found.{Found}
+use Rattle.lines.specs.declared.Said.{Said}
+use Rattle.lines.specs.Lines.{named}
+use Rattle.lines.specs.Reader.{instructionRead}
+use Rattle.lines.specs.Code.{labelsIn, saidOf}
+use Rattle.lines.proofs.Starts.{began, word-said}
 use borrow.Author.Needs.{needs}
 use Rattle.lines.proofs.line.Statement.{statement}
 use Rattle.lines.proofs.line.Tie as tie
@@ -14,64 +14,65 @@ use Rattle.lines.proofs.line.Lts as lts
 use Rattle.lines.proofs.instructions.instruction.Reads as instruction-reads
 use Rattle.lines.proofs.opcode_at.Reads as opcode-at-reads
 use Rattle.lines.proofs.start_of.Reads as start-of-reads
+use Rattle.lines.proofs.word_or_bad.Reads as word-or-bad-reads
 
--- src/lib.rt:78:11
+-- src/lib.rt:88:11
 start-of-requires : tie.Need-start-of-requires
 start-of-requires c κs = search needs
 
--- src/lib.rt:79:25
+-- src/lib.rt:89:25
 enum-told : tie.Need-enum-told
 enum-told c = search needs
 
--- src/lib.rt:80:28
+-- src/lib.rt:90:28
 enum-told-2 : tie.Need-enum-told-2
 enum-told-2 c = search needs
 
--- src/lib.rt:81:21
+-- src/lib.rt:91:21
 enum-known-at : tie.Need-enum-known-at
 enum-known-at c = search needs
 
--- src/lib.rt:82:33
+-- src/lib.rt:92:33
 opcode-at-requires : tie.Need-opcode-at-requires
 opcode-at-requires c κs = began (c .before .before .before .before .before .before .before .args .s .now) (c .before .before .before .start-of .result) _ (c .before .before .before .start-of .ensures) (c .before .at .given .1) .1
 
--- src/lib.rt:82:27
+-- src/lib.rt:92:27
 enum-known-op : tie.Need-enum-known-op
 enum-known-op c = search needs
 
--- src/lib.rt:83:17
+-- src/lib.rt:93:17
 enum-told-3 : tie.Need-enum-told-3
 enum-told-3 c = search needs
 
--- src/lib.rt:83:17
+-- src/lib.rt:93:17
 returns : tie.Need-returns
 returns c = let a = c .before .before .before .before .before .before .before .before .before .before .args in let look = labelsIn (a .text .now) (a .table .now) (a .own) in began (a .s .now) (c .before .before .before .before .before .before .start-of .result) _ (c .before .before .before .before .before .before .start-of .ensures) (c .before .before .before .before .at .given .1) .0 look ∙ ap (λ (f : Found). instructionRead f look (drop (c .before .before .before .before .at .given .0 .1 .0) (a .s .now))) (sym (c .before .before .opcode-at .ensures) ∙ c .enum-told3 .given .1)
 
--- src/lib.rt:85:13
+-- src/lib.rt:95:25
 instruction-requires : tie.Need-instruction-requires
 instruction-requires c κs = search needs
 
--- src/lib.rt:87:25
+-- src/lib.rt:95:13
+word-or-bad-requires : tie.Need-word-or-bad-requires
+word-or-bad-requires c κs = search needs
+
+-- src/lib.rt:97:25
 enum-told-4 : tie.Need-enum-told-4
 enum-told-4 c = search needs
 
--- src/lib.rt:75:1
+-- src/lib.rt:85:1
 returns-2 : tie.Need-returns-2
 returns-2 c = began (c .before .before .before .before .before .before .args .s .now) (c .before .before .start-of .result) _ (c .before .before .start-of .ensures) (c .enum-told .given .1) _
 
--- src/lib.rt:75:1
+-- src/lib.rt:85:1
 returns-3 : tie.Need-returns-3
 returns-3 c = let w = began (c .before .before .before .before .before .before .args .s .now) (c .before .before .start-of .result) _ (c .before .before .start-of .ensures) (c .enum-told2 .given .1) in w .0 _ ∙ ap named (w .1 .0)
 
--- src/lib.rt:75:1
+-- src/lib.rt:85:1
 returns-4 : tie.Need-returns-4
-returns-4 c = let a = c .before .before .before .before .before .before .before .before .before .before .before .before .args in let look = labelsIn (a .text .now) (a .table .now) (a .own) in
-    let op = c .before .before .op .given .0 .0 in
-    let e = c .before .before .before .before .before .before .at .given .0 .1 .0 in
-    began (a .s .now) (c .before .before .before .before .before .before .before .before .start-of .result) _ (c .before .before .before .before .before .before .before .before .start-of .ensures) (c .before .before .before .before .before .before .at .given .1) .0 look ∙ ap (λ (f : Found). instructionRead f look (drop e (a .s .now))) (sym (c .before .before .before .before .opcode-at .ensures) ∙ c .before .before .op .given .1)
-    ∙ said-any (wordOf op (operandsRead (kindsOf (formOf op)) (look (formOf op)) (drop e (a .s .now)))) (a .s .now) (c .instruction .result) (c .instruction .ensures)
+returns-4 c = let a = c .before .before .before .before .before .before .before .before .before .before .before .before .before .args in let look = labelsIn (a .text .now) (a .table .now) (a .own) in began (a .s .now) (c .before .before .before .before .before .before .before .before .before .start-of .result) _ (c .before .before .before .before .before .before .before .before .before .start-of .ensures) (c .before .before .before .before .before .before .before .at .given .1) .0 look ∙ ap (λ (f : Found). instructionRead f look (drop (c .before .before .before .before .before .before .before .at .given .0 .1 .0) (a .s .now))) (sym (c .before .before .before .before .before .opcode-at .ensures) ∙ c .before .before .before .op .given .1) ∙ c .before .instruction .ensures ∙ word-said (a .s .now) (c .before .instruction .result) ∙ ap (saidOf (a .s .now)) (sym (c .word-or-bad .ensures))
 
--- src/lib.rt:75:1
+-- src/lib.rt:85:1
 returns-5 : tie.Need-returns-5
 returns-5 c = began (c .before .before .before .before .before .before .args .s .now) (c .before .before .start-of .result) _ (c .before .before .start-of .ensures) (c .enum-told4 .given .1) _
 
@@ -88,6 +89,7 @@ line-spec =
     enum-told-3
     returns
     instruction-requires
+    word-or-bad-requires
     enum-told-4
     returns-2
     returns-3

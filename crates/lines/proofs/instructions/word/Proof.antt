@@ -1,32 +1,40 @@
 use mathlib.Core.Path.{_≡_, sym, _∙_, ap}
 use Rattle.words.specs.declared.Encoded.{Encoded}
 use Rattle.lines.specs.Lines.{wordIn, toldBy}
+use Rattle.lines.proofs.Words.{word-is}
 use borrow.Author.Needs.{needs}
 use Rattle.lines.proofs.instructions.word.Statement.{statement}
 use Rattle.lines.proofs.instructions.word.Tie as tie
 use Rattle.lines.proofs.instructions.word.Reads as reads
 use Rattle.lines.proofs.instructions.word.Lts as lts
+use Rattle.lines.proofs.instructions.wide.Reads as wide-reads
 use Rattle.words.proofs.encode_parts.Reads as encode-parts-reads
 
--- src/instructions.rt:33:11
+-- src/instructions.rt:42:11
 encode-parts-requires : tie.Need-encode-parts-requires
 encode-parts-requires c κs = search needs
 
--- src/instructions.rt:34:23
+-- src/instructions.rt:43:23
 enum-known-w : tie.Need-enum-known-w
 enum-known-w c = search needs
 
--- src/instructions.rt:35:32
+-- src/instructions.rt:43:29
+wide-requires : tie.Need-wide-requires
+wide-requires c κs = search needs
+
+-- src/instructions.rt:44:32
 enum-told : tie.Need-enum-told
 enum-told c = search needs
 
--- src/instructions.rt:30:1
+-- src/instructions.rt:39:1
 returns : tie.Need-returns
-returns c = ap (λ (x : Encoded). toldBy (wordIn x)) (sym (c .before .before .before .encode-parts .ensures) ∙ c .before .w .given .1)
+returns c = ap (λ (x : Encoded). toldBy (wordIn x)) (sym (c .before .before .before .before .encode-parts .ensures) ∙ c .before .before .w .given .1) ∙ word-is (c .before .before .w .given .0 .0) (c .wide .result) (c .wide .ensures .0) (c .wide .ensures .1)
 
--- src/instructions.rt:30:1
+-- src/instructions.rt:39:1
 returns-2 : tie.Need-returns-2
 returns-2 c = ap (λ (x : Encoded). toldBy (wordIn x)) (sym (c .before .before .encode-parts .ensures) ∙ c .enum-told .given .1)
 
 pub word-spec : {M : Type 1} → statement M
-word-spec = tie.close (tie.spec encode-parts-requires enum-known-w enum-told returns returns-2)
+word-spec =
+    tie.close
+    (tie.spec encode-parts-requires enum-known-w wide-requires enum-told returns returns-2)
