@@ -160,13 +160,20 @@ one-more p (b ∷ t) (suc k) h = ap (p b &&_) (one-more p t k (omega arith)) ∙
     go true y z = refl
     go false y z = refl
 
--- one byte more that is looked at
-pub looked : (s : List ℕ) (n k : ℕ) → n + k < length s → every isText (take (suc k) (drop n s)) ≡ (every isText (take k (drop n s)) && isText (getD s (n + k) 0))
-looked s n k h = one-more isText (drop n s) k (rw length-drop (omega arith)) ∙ ap (λ (b : ℕ). every isText (take k (drop n s)) && isText b) (getD-drop n s k 0)
+-- whether none of the bytes from a place to the k-th after it is an LF
+abbrev pub textTo : List ℕ → ℕ → ℕ → Bool
+textTo s n zero = isText (getD s n 0)
+textTo s n (suc k) = textTo s n k && isText (getD s (n + suc k) 0)
 
-pub looked-first : (s : List ℕ) (n : ℕ) → n < length s → every isText (take 1 (drop n s)) ≡ isText (getD s n 0)
+pub text-to : (s : List ℕ) (n k : ℕ) → n + k < length s → textTo s n k ≡ every isText (take (suc k) (drop n s))
 unfolding every
-looked-first s n h = let e : n + 0 ≡ n = omega arith in looked s n 0 (omega arith) ∙ ap (λ (k : ℕ). isText (getD s k 0)) e
+text-to s n zero h =
+    let e : n + 0 ≡ n = omega arith in
+    sym (one-more isText (drop n s) zero (rw length-drop (omega arith)) ∙ ap isText (getD-drop n s 0 0) ∙ ap (λ (k : ℕ). isText (getD s k 0)) e)
+text-to s n (suc k) h =
+    ap (_&& isText (getD s (n + suc k) 0)) (text-to s n k (omega arith))
+    ∙ ap (λ (b : ℕ). every isText (take (suc k) (drop n s)) && isText b) (sym (getD-drop n s (suc k) 0))
+    ∙ sym (one-more isText (drop n s) (suc k) (rw length-drop (omega arith)))
 
 module _ (s : List ℕ) (at n : ℕ) (g : Going isText s at n) where
   pub feed-end : length s ≤ n → Passed isText s at n

@@ -1,5 +1,5 @@
 use native.Mathlib.Omega.{arith}
-use Rattle.programs.proofs.Lines.{looked, looked-first}
+use Rattle.programs.proofs.Lines.{text-to}
 use borrow.Author.Needs.{needs}
 use Rattle.programs.proofs.spans.eight_are_text.Statement.{statement}
 use Rattle.programs.proofs.spans.eight_are_text.Tie as tie
@@ -68,7 +68,7 @@ shared-slice-read-result-8 c = search needs
 
 -- src/spans.rt:35:1
 returns : tie.Need-returns
-returns c = let s = c .before .before .before .before .before .before .before .before .args .s .now in let n = c .before .before .before .before .before .before .before .before .args .n in let h = c .before .before .before .before .before .before .before .before .pre in rw (looked s n 7 (omega arith), looked s n 6 (omega arith), looked s n 5 (omega arith), looked s n 4 (omega arith), looked s n 3 (omega arith), looked s n 2 (omega arith), looked s n 1 (omega arith), looked-first s n (omega arith))
+returns c = text-to (c .before .before .before .before .before .before .before .before .args .s .now) (c .before .before .before .before .before .before .before .before .args .n) 7 (omega (arith, c .before .before .before .before .before .before .before .before .pre))
 
 pub eight-are-text-spec : {M : Type 1} → statement M
 eight-are-text-spec =
