@@ -8,9 +8,9 @@ use native.Mathlib.Omega.{arith}
 use lib.Dec.{eqb, leb, ltb}
 use lib.ListN.{length, getD}
 use borrow.Author.Tests.{eq-eqb, ne-eqb, eqb-true, eqb-false}
-use Rattle.labels.specs.Bytes.{eqBytes}
+use Rattle.labels.specs.Bytes.{eqBytes, keyOf}
 use Rattle.labels.specs.Reading.{nameAt}
-use Rattle.labels.specs.Table.{keyOf, slotsOf, placeAt, keyAt, indexAt, homeOf, nextOf, holds, searchFrom, searchIn, indexBy, indexIn}
+use Rattle.labels.specs.Table.{slotsOf, placeAt, keyAt, indexAt, homeOf, nextOf, holds, searchFrom, searchIn, indexBy, indexIn}
 use Rattle.labels.specs.declared.table.Slot.{Slot}
 use Rattle.labels.specs.declared.table.Slot.the-variants.{Held, Free, Full}
 use Rattle.labels.proofs.Spans.{both-true}

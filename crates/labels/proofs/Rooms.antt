@@ -7,7 +7,8 @@ use Prim.Native.Nat.{ℕ, zero, suc, _+_, _-_, _≤_, _<_}
 use native.Mathlib.Omega.{arith}
 use lib.Dec.{eqb, leb, ltb}
 use borrow.Author.Tests.{eq-eqb, ne-eqb, eqb-true, eqb-false, leb-true, leb-false, lt-ltb, le-ltb, ltb-true, ltb-false}
-use Rattle.labels.specs.Table.{keyOf, slotsOf, keyAt, homeOf, nextOf, holds, searchFrom, searchIn}
+use Rattle.labels.specs.Bytes.{keyOf}
+use Rattle.labels.specs.Table.{slotsOf, keyAt, homeOf, nextOf, holds, searchFrom, searchIn}
 use Rattle.labels.specs.declared.table.Slot.{Slot}
 use Rattle.labels.specs.declared.table.Slot.the-variants.{Held, Free, Full}
 use Rattle.labels.proofs.Searches.{next-below, home-below}

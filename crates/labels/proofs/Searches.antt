@@ -10,9 +10,9 @@ use lib.ListN.{set}
 use lib.Seq.{sets}
 use borrow.Author.Tests.{eq-eqb, ne-eqb, eqb-false, ltb-false, lt-ltb, le-ltb}
 use lib.Dec.{eqb, ltb}
-use Rattle.labels.specs.Bytes.{eqBytes}
+use Rattle.labels.specs.Bytes.{eqBytes, keyOf}
 use Rattle.labels.specs.Reading.{nameAt}
-use Rattle.labels.specs.Table.{keyOf, slotsOf, placeAt, keyAt, spreadOf, homeOf, nextOf, holds, searchFrom, searchIn}
+use Rattle.labels.specs.Table.{slotsOf, placeAt, keyAt, spreadOf, homeOf, nextOf, holds, searchFrom, searchIn}
 use Rattle.labels.specs.declared.table.Slot.{Slot}
 use Rattle.labels.specs.declared.table.Slot.the-variants.{Held, Free, Full}
 

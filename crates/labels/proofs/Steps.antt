@@ -8,9 +8,9 @@ use lib.Dec.{eqb, leb}
 use lib.Seq.{drop-drop}
 use lib.ListN.{length, drop, length-drop, length-append, List·getD-eq-default}
 use borrow.Author.Tests.{eq-eqb, ne-eqb, leb-true, leb-false}
-use Rattle.labels.specs.Bytes.{isSpace, isDigit, isPart, decimalFrom, headOf, eqBytes}
+use Rattle.labels.specs.Bytes.{isSpace, isDigit, isPart, decimalFrom, headOf, eqBytes, keyFrom, keyOf}
 use Rattle.labels.specs.Reading.{tailOf, run, past, nameAt, Passed}
-use Rattle.labels.specs.Table.{keyFrom, keyOf, nameFrom}
+use Rattle.labels.specs.Table.{nameFrom}
 use Rattle.labels.proofs.Spans.{head-drop, tail-drop, inside, past-stop, past-on, run-past, run-stop, run-on}
 
 pub head-end : (s : List ℕ) (n : ℕ) → length s ≤ n → 0 ≡ headOf (drop n s)

@@ -9,9 +9,9 @@ use native.Mathlib.Omega.{arith}
 use lib.Dec.{ltb}
 use lib.ListN.{length, getD, set, drop, replicate, length-set, length-replicate, List·getD-eq-default}
 use lib.Seq.{sets, length-sets, getD-set-same, getD-set-other}
-use Rattle.labels.specs.Bytes.{isLetter, isPart, every, headOf, eqBytes}
+use Rattle.labels.specs.Bytes.{isLetter, isPart, every, headOf, eqBytes, keyFrom, keyOf}
 use Rattle.labels.specs.Reading.{tailOf, run, nameAt}
-use Rattle.labels.specs.Table.{keyFrom, keyOf, slotsOf, placeAt, keyAt, indexAt, searchIn, indexBy, indexIn}
+use Rattle.labels.specs.Table.{slotsOf, placeAt, keyAt, indexAt, searchIn, indexBy, indexIn}
 use Rattle.labels.specs.declared.table.Slot.{Slot}
 use Rattle.labels.specs.declared.table.Slot.the-variants.{Held, Free, Full}
 use Rattle.labels.proofs.Spans.{both-true, run-on, every-run}

@@ -1,5 +1,5 @@
 -- Bytes of a text: spaces, digits, letters, names and decimal numbers.
-use Prim.Native.Nat.{ℕ, _+_, _-_, _*_}
+use Prim.Native.Nat.{ℕ, _+_, _-_, _*_, _%_, _^_}
 use mathlib.Core.Bool.{Bool, true, false, _&&_, _||_, cond}
 use mathlib.Core.List.{List, [], _∷_}
 use lib.Dec.{leb, eqb}
@@ -36,6 +36,14 @@ headOf (b ∷ t) = b
 unfoldable pub isName : List ℕ → Bool
 isName [] = false
 isName (b ∷ t) = isLetter b && every isPart t
+
+-- a name's key: its last eight bytes as a number, the last one lowest
+unfoldable pub keyFrom : ℕ → List ℕ → ℕ
+keyFrom v [] = v
+keyFrom v (b ∷ t) = keyFrom (v % 2 ^ 56 * 256 + b) t
+
+abbrev pub keyOf : List ℕ → ℕ
+keyOf name = keyFrom 0 name
 
 -- at least one digit
 unfoldable pub isNumber : List ℕ → Bool

@@ -8,7 +8,7 @@ use mathlib.Core.Option.{Option, none, some}
 use lib.Dec.{eqb, ltb}
 use lib.ListN.{length, getD}
 use lib.Seq.{sets}
-use Rattle.labels.specs.Bytes.{eqBytes}
+use Rattle.labels.specs.Bytes.{eqBytes, keyOf}
 use Rattle.labels.specs.Reading.{nameAt}
 use Rattle.labels.specs.declared.table.Name.{Name}
 use Rattle.labels.specs.declared.table.Slot.{Slot}
@@ -17,14 +17,6 @@ use Rattle.labels.specs.declared.table.Found.{Found}
 use Rattle.labels.specs.declared.table.Found.the-variants.{At, Nothing}
 use Rattle.labels.specs.declared.table.Noted.{Noted}
 use Rattle.labels.specs.declared.table.Noted.the-variants as N
-
--- the last eight bytes of a name as a number: names with other keys differ, so few are compared byte by byte
-unfoldable pub keyFrom : ℕ → List ℕ → ℕ
-keyFrom v [] = v
-keyFrom v (b ∷ t) = keyFrom (v % 2 ^ 56 * 256 + b) t
-
-abbrev pub keyOf : List ℕ → ℕ
-keyOf name = keyFrom 0 name
 
 -- the name at a place, as it is read
 abbrev pub nameFrom : List ℕ → ℕ → Name

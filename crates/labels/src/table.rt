@@ -6,9 +6,9 @@ ghost use mathlib.Core.Bool.{_&&_};
 ghost use Prim.Native.Nat.{_+_, _<_};
 ghost use lib.Dec.{eqb};
 ghost use lib.ListN.{length};
-ghost use Rattle.labels.specs.Bytes.{eqBytes};
+ghost use Rattle.labels.specs.Bytes.{eqBytes, keyOf};
 ghost use Rattle.labels.specs.Reading.{nameAt};
-ghost use Rattle.labels.specs.Table.{keyOf, nameFrom, homeOf, nextOf, searchIn, indexIn, foundBy, notedBy, withLabel};
+ghost use Rattle.labels.specs.Table.{nameFrom, homeOf, nextOf, searchIn, indexIn, foundBy, notedBy, withLabel};
 
 // Where a name is in the table, or would be.
 pub enum Slot {
@@ -29,7 +29,7 @@ pub enum Noted {
 }
 
 // A name, read once: its key, and the place after it.
-pub(crate) struct Name {
+pub struct Name {
     pub key: u64,
     pub after: usize,
 }
@@ -47,7 +47,7 @@ fn wide(c: u8) -> u64
 }
 
 // The name at a place. Its key is its last eight bytes as a number.
-fn name_at(s: &[u8], at: usize) -> Name
+pub fn name_at(s: &[u8], at: usize) -> Name
     ensures { λ r. ⌜ r ≡ nameFrom (now (s .entry)) at ⌝ }
 {
     let mut v: u64 = 0;

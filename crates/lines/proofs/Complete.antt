@@ -9,7 +9,6 @@ use lib.Dec.{eqb, leb, ltb}
 use lib.IntN.{ℤ, pos}
 use lib.ListN.{length, replicate-append-replicate}
 use borrow.Author.Tests.{leb-false, ltb-true, ltb-false, lt-ltb, le-leb, lt-leb, ne-eqb, eqb-true}
-use Rattle.memory.specs.Bytes.{numberOfBytes}
 use Rattle.opcode.specs.Opcodes.{all, opcodeIn, formOf}
 use Rattle.opcode.specs.declared.Opcode.{Opcode}
 use Rattle.opcode.specs.declared.Opcode.the-variants as O
@@ -18,9 +17,9 @@ use Rattle.opcode.specs.declared.Found.{Found}
 use Rattle.opcode.specs.declared.Found.the-variants.{Op, Nothing}
 use Rattle.opcode.proofs.Arms.{everywhere}
 use Rattle.opcode.proofs.Variants.{place, all-at}
-use Rattle.names.specs.Names.{registerText, nameOf, nameNumber}
+use Rattle.names.specs.Names.{registerText, nameOf, nameKey}
 use Rattle.names.proofs.Fifty.{found}
-use Rattle.labels.specs.Bytes.{isSpace, isDigit, isLetter, isPart, every, isName, isNumber, spaces, headOf}
+use Rattle.labels.specs.Bytes.{isSpace, isDigit, isLetter, isPart, every, isName, isNumber, spaces, headOf, keyOf}
 use Rattle.sums.specs.Sums.{Sum, Term, number as numeral, label, group, unsigned, plus, minus, sumText, termText, restText, sumValue}
 use Rattle.labels.specs.Reading.{tailOf, run, past, skip}
 use Rattle.sums.specs.Reader.{Got, got, bad, given, onto, sumRead}
@@ -235,7 +234,7 @@ module _ (look : Form → List ℕ → Option ℤ) where
       let a : isPart (headOf t) ≡ false = unfold headOf in space-apart h (58 ∷ spaces k) refl in
       let colon : skip (past isPart (name ++ t)) ≡ 58 ∷ spaces k = ap skip (passes name t n a) ∙ skip-spaces h (58 ∷ spaces k) in
       starts g name t n
-      ∙ ap (λ (u : List ℕ). cond (eqb (headOf u) 58) (cond (nothing (skip (tailOf u))) (named (run isPart (name ++ t))) wrong) (instructionRead (opcodeIn nameNumber (numberOfBytes (run isPart (name ++ t)))) look (past isPart (name ++ t)))) colon
+      ∙ ap (λ (u : List ℕ). cond (eqb (headOf u) 58) (cond (nothing (skip (tailOf u))) (named (run isPart (name ++ t))) wrong) (instructionRead (opcodeIn nameKey (keyOf (run isPart (name ++ t)))) look (past isPart (name ++ t)))) colon
       ∙ ap (λ (u : List ℕ). cond (nothing u) (named (run isPart (name ++ t))) wrong) (skip-all k)
       ∙ ap named (runs name t n a)
 
@@ -248,8 +247,8 @@ module _ (look : Form → List ℕ → Option ℤ) where
       let p = passes (nameOf op) t n a in
       let colon : eqb (headOf (skip (past isPart (nameOf op ++ t)))) 58 ≡ false = ap (λ (u : List ℕ). eqb (headOf (skip u)) 58) p ∙ no-colon os h in
       starts g (nameOf op) t n
-      ∙ ap (λ (x : Bool). cond x (cond (nothing (skip (tailOf (skip (past isPart (nameOf op ++ t)))))) (named (run isPart (nameOf op ++ t))) wrong) (instructionRead (opcodeIn nameNumber (numberOfBytes (run isPart (nameOf op ++ t)))) look (past isPart (nameOf op ++ t)))) colon
-      ∙ ap (λ (f : Found). instructionRead f look (past isPart (nameOf op ++ t))) (ap (λ (u : List ℕ). opcodeIn nameNumber (numberOfBytes u)) (runs (nameOf op) t n a) ∙ found op)
+      ∙ ap (λ (x : Bool). cond x (cond (nothing (skip (tailOf (skip (past isPart (nameOf op ++ t)))))) (named (run isPart (nameOf op ++ t))) wrong) (instructionRead (opcodeIn nameKey (keyOf (run isPart (nameOf op ++ t)))) look (past isPart (nameOf op ++ t)))) colon
+      ∙ ap (λ (f : Found). instructionRead f look (past isPart (nameOf op ++ t))) (ap (λ (u : List ℕ). opcodeIn nameKey (keyOf u)) (runs (nameOf op) t n a) ∙ found op)
       ∙ ap (λ (vs : Option (List ℤ)). toldBy (wordOf op vs)) (ap (operandsRead (kindsOf (formOf op)) (look (formOf op))) p ∙ arguments-law (look (formOf op)) os h)
 
   pub line-complete : (l : Line) → lineRead look (lineText l) ≡ lineTold l look

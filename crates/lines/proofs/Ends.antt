@@ -8,7 +8,7 @@ use native.Mathlib.Omega.{arith}
 use lib.Dec.{eqb}
 use lib.ListN.{length, getD, drop}
 use borrow.Author.Tests.{eqb-true}
-use Rattle.labels.specs.Bytes.{isSpace, isLetter, every, headOf}
+use Rattle.labels.specs.Bytes.{isSpace, isLetter, every, headOf, keyOf}
 use Rattle.labels.specs.Reading.{tailOf, run, past, skip, nameAt}
 use Rattle.labels.proofs.Spans.{both-true, inside}
 use Rattle.labels.proofs.Classes.{or-true}
@@ -68,11 +68,11 @@ module _ (s : List ℕ) where
       (inside s n (λ z. let w = sym c ∙ z in omega arith), colon-ends (drop n s) c (ap (λ (t : List ℕ). nothing (skip (tailOf t))) to ∙ k))
 
   ended : Ended s (startOf s)
-  unfolding startOf at e
+  unfolding startOf at e n
   ended = go (nothing (drop at s)) (isLetter (headOf (drop at s))) (eqb (headOf (skip (drop e s))) 58) (nothing (skip (tailOf (skip (drop e s))))) refl refl refl
     where
       go : (a b c d : Bool) → nothing (drop at s) ≡ a → eqb (headOf (skip (drop e s))) 58 ≡ c → nothing (skip (tailOf (skip (drop e s)))) ≡ d
-          → Ended s (cond a Start.Blank (cond b (cond c (cond d (Start.Label at) Start.Other) (Start.Word at e)) Start.Other))
+          → Ended s (cond a Start.Blank (cond b (cond c (cond d (Start.Label at) Start.Other) (Start.Word (keyOf (nameAt s at)) n)) Start.Other))
       go true b c d h i j = blank h
       go false true true true h i j = (n, defines i j)
       go false true true false h i j = tt

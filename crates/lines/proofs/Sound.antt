@@ -9,25 +9,28 @@ use lib.Dec.{eqb, leb, ltb}
 use lib.IntN.{ℤ, pos}
 use lib.ListN.{length}
 use borrow.Author.Tests.{leb-true, eqb-true, lt-ltb, le-ltb}
-use Rattle.memory.specs.Bytes.{numberOfBytes}
 use Rattle.opcode.specs.Opcodes.{all, opcodeIn, formOf}
 use Rattle.opcode.specs.declared.Opcode.{Opcode}
+use Rattle.opcode.specs.declared.Opcode.the-variants as O
 use Rattle.opcode.specs.declared.Form.{Form}
 use Rattle.opcode.specs.declared.Form.the-variants.{R, I, Shift, S, B, J, Alone}
 use Rattle.opcode.specs.declared.Found.{Found}
 use Rattle.opcode.specs.declared.Found.the-variants.{Op, Nothing}
+use Rattle.opcode.proofs.Arms.{everywhere}
+use Rattle.opcode.proofs.Variants.{place, all-at}
 use Rattle.opcode.proofs.Numberings.{number-found}
-use Rattle.names.specs.Names.{registerText, nameOf, nameNumber}
-use Rattle.labels.specs.Bytes.{isSpace, isDigit, isLetter, isPart, every, isName, spaces, headOf}
+use Rattle.names.specs.Names.{registerText, nameOf, nameKey}
+use Rattle.labels.specs.Bytes.{isSpace, isDigit, isLetter, isPart, every, isName, spaces, headOf, keyOf}
 use Rattle.sums.specs.Sums.{sumText, sumValue}
 use Rattle.labels.specs.Reading.{tailOf, run, past, skip}
 use Rattle.sums.specs.Reader.{Got, got, bad, given, onto, sumRead}
 use Rattle.labels.proofs.Spans.{both-true, run-past, every-run, past-head}
-use Rattle.labels.proofs.Classes.{part-bounds, digit-low, digit-high, letter-low, or-cases}
+use Rattle.labels.proofs.Classes.{digit-low, digit-high, letter-low, or-cases}
 use Rattle.sums.proofs.Sound.{sound, bad-got, cons-is, skipped, is-name, onto-got}
 use Rattle.lines.specs.Lines.{Kind, register, immediate, kindsOf, Operand, reg, sum, Operands, without, last, more, Line, blank, defines, instruction, operandText, operandsText, argumentsText, lineText, operandValue, push, operandsValues, wordOf, Told, empty, named, word, wrong, toldBy, lineTold}
 use Rattle.lines.specs.Reader.{isTeen, registerRead, operandRead, nothing, with, operandsRead, instructionRead, wordRead, lineRead}
 use Rattle.lines.proofs.Complete.{append-none, name-is, parts-of}
+use Rattle.lines.proofs.Names.{turned, one-key}
 
 -- ---- a register
 RegisterSound : List ℕ → ℤ → List ℕ → Type 0
@@ -174,20 +177,10 @@ module _ (look : List ℕ → Option ℤ) where
       go : (os : Operands []) (n : ℕ) → t ≡ operandsText os ++ spaces n → operandsValues os look ≡ some vs → ArgumentsSound [] t vs
       go without n e v = (without, (n, e, v))
 
--- ---- names: bytes that are letters or digits are determined by their number
-number-injective : (xs ys : List ℕ) → every isPart xs ≡ true → every isPart ys ≡ true → numberOfBytes xs ≡ numberOfBytes ys → xs ≡ ys
-unfolding numberOfBytes every
-number-injective [] [] p q e = refl
-number-injective [] (y ∷ ys) p q e = let b = part-bounds y (both-true (isPart y) (every isPart ys) q .0) in absurd (omega arith)
-number-injective (x ∷ xs) [] p q e = let b = part-bounds x (both-true (isPart x) (every isPart xs) p .0) in absurd (omega arith)
-number-injective (x ∷ xs) (y ∷ ys) p q e =
-    let k = both-true (isPart x) (every isPart xs) p in
-    let m = both-true (isPart y) (every isPart ys) q in
-    let a = part-bounds x (k .0) in
-    let b = part-bounds y (m .0) in
-    let h : x ≡ y = omega arith in
-    let t : numberOfBytes xs ≡ numberOfBytes ys = omega arith in
-    ap (_∷ xs) h ∙ ap (y ∷_) (number-injective xs ys (k .1) (m .1) t)
+-- ---- names
+name-short : (op : Opcode) → length (turned (nameOf op) []) ≤ 7
+unfolding all
+name-short op = leb-true (length (turned (nameOf op) [])) 7 (everywhere all O.Add place all-at (λ (op : Opcode). leb (length (turned (nameOf op) [])) 7) (λ (op : Opcode). true) refl refl op)
 
 -- ---- a line
 module _ (look : Form → List ℕ → Option ℤ) where
@@ -202,13 +195,13 @@ module _ (look : Form → List ℕ → Option ℤ) where
   told-word op none x e n = refused x e n
   told-word op (some vs) x e n = (vs, refl)
 
-  op-sound : (g : ℕ) (t : List ℕ) (f : Found) (x : Told) → opcodeIn nameNumber (numberOfBytes (run isPart t)) ≡ f → instructionRead f look (past isPart t) ≡ x → (x ≡ wrong → ⊥) → LineSound (spaces g ++ t) x
+  op-sound : (g : ℕ) (t : List ℕ) (f : Found) (x : Told) → opcodeIn nameKey (keyOf (run isPart t)) ≡ f → instructionRead f look (past isPart t) ≡ x → (x ≡ wrong → ⊥) → LineSound (spaces g ++ t) x
   unfolding LineSound lineText lineTold ArgumentsSound
   op-sound g t Nothing x e h n = refused x h n
   op-sound g t (Op op) x e h n =
       let k = told-word op (operandsRead (kindsOf (formOf op)) (look (formOf op)) (past isPart t)) x h n in
       let a = arguments-sound (look (formOf op)) (formOf op) (past isPart t) (k .0) (past-head isPart t refl) (k .1) in
-      let name : run isPart t ≡ nameOf op = number-injective (run isPart t) (nameOf op) (every-run isPart t) (parts-of look (nameOf op) (name-is op)) (sym (number-found nameNumber all (numberOfBytes (run isPart t)) op e)) in (
+      let name : run isPart t ≡ nameOf op = one-key (run isPart t) (nameOf op) (every-run isPart t) (parts-of look (nameOf op) (name-is op)) (name-short op) (sym (number-found nameKey all (keyOf (run isPart t)) op e)) in (
         instruction g op (a .0) (a .1 .0),
         ap (spaces g ++_) (sym (run-past isPart t) ∙ ap (λ (u : List ℕ). u ++ past isPart t) name ∙ ap (nameOf op ++_) (a .1 .1)),
         ap (λ (o : Option (List ℤ)). toldBy (wordOf op o)) (a .1 .2 ∙ sym (k .1)) ∙ h,
@@ -230,9 +223,9 @@ module _ (look : Form → List ℕ → Option ℤ) where
           )
 
       go : (c : Bool) → eqb (headOf (skip (past isPart t))) 58 ≡ c
-          → cond c (cond (nothing (skip (tailOf (skip (past isPart t))))) (named (run isPart t)) wrong) (instructionRead (opcodeIn nameNumber (numberOfBytes (run isPart t))) look (past isPart t)) ≡ x → LineSound (spaces g ++ t) x
+          → cond c (cond (nothing (skip (tailOf (skip (past isPart t))))) (named (run isPart t)) wrong) (instructionRead (opcodeIn nameKey (keyOf (run isPart t))) look (past isPart t)) ≡ x → LineSound (spaces g ++ t) x
       go true e h = colon (nothing (skip (tailOf (skip (past isPart t))))) refl (eqb-true (headOf (skip (past isPart t))) 58 e) h
-      go false e h = op-sound g t (opcodeIn nameNumber (numberOfBytes (run isPart t))) x refl h n
+      go false e h = op-sound g t (opcodeIn nameKey (keyOf (run isPart t))) x refl h n
 
   -- whatever is read, but for a bad line, is what a line with that text says
   pub line-sound : (t : List ℕ) (x : Told) → lineRead look t ≡ x → (x ≡ wrong → ⊥) → (l : Line) × (t ≡ lineText l) × (lineTold l look ≡ x)

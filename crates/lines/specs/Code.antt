@@ -8,7 +8,7 @@ use lib.IntN.{ℤ, pos}
 use lib.ListN.{length, drop}
 use Rattle.opcode.specs.declared.Form.{Form}
 use Rattle.opcode.specs.declared.Form.the-variants.{R, I, Shift, S, B, J, Alone}
-use Rattle.labels.specs.Bytes.{isSpace, isLetter, isPart, headOf}
+use Rattle.labels.specs.Bytes.{isSpace, isLetter, isPart, headOf, keyOf}
 use Rattle.labels.specs.Reading.{tailOf, run, skip, nameAt}
 use Rattle.sums.specs.Reader.{Got, got, bad, onto}
 use Rattle.sums.specs.Code.{lookIn}
@@ -67,7 +67,9 @@ isNumbered Alone = false
 
 -- how a line begins: its name stands from `at` to e
 abbrev pub namedAt : List ℕ → ℕ → ℕ → Start
-namedAt s at e = cond (eqb (headOf (skip (drop e s))) 58) (cond (nothing (skip (tailOf (skip (drop e s))))) (Start.Label at) Start.Other) (Start.Word at e)
+namedAt s at e =
+    cond (eqb (headOf (skip (drop e s))) 58) (cond (nothing (skip (tailOf (skip (drop e s))))) (Start.Label at) Start.Other)
+    (Start.Word (keyOf (nameAt s at)) (e + length (run isSpace (drop e s))))
 
 abbrev pub startAt : List ℕ → ℕ → Start
 startAt s at =

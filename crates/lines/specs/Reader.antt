@@ -5,13 +5,12 @@ use mathlib.Core.List.{List, [], _∷_}
 use mathlib.Core.Option.{Option, none, some}
 use lib.Dec.{leb, eqb}
 use lib.IntN.{ℤ, pos}
-use Rattle.memory.specs.Bytes.{numberOfBytes}
 use Rattle.opcode.specs.Opcodes.{opcodeIn, formOf}
 use Rattle.opcode.specs.declared.Form.{Form}
 use Rattle.opcode.specs.declared.Found.{Found}
 use Rattle.opcode.specs.declared.Found.the-variants.{Op, Nothing}
-use Rattle.names.specs.Names.{nameNumber}
-use Rattle.labels.specs.Bytes.{isDigit, isLetter, isPart, headOf}
+use Rattle.names.specs.Names.{nameKey}
+use Rattle.labels.specs.Bytes.{isDigit, isLetter, isPart, headOf, keyOf}
 use Rattle.labels.specs.Reading.{tailOf, run, past, skip}
 use Rattle.sums.specs.Reader.{Got, got, bad, onto, sumRead}
 use Rattle.lines.specs.Lines.{Kind, register, immediate, kindsOf, push, wordOf, Told, empty, named, word, wrong, toldBy}
@@ -55,7 +54,7 @@ unfoldable pub wordRead : (Form → List ℕ → Option ℤ) → List ℕ → To
 wordRead look t =
     cond (eqb (headOf (skip (past isPart t))) 58)
     (cond (nothing (skip (tailOf (skip (past isPart t))))) (named (run isPart t)) wrong)
-    (instructionRead (opcodeIn nameNumber (numberOfBytes (run isPart t))) look (past isPart t))
+    (instructionRead (opcodeIn nameKey (keyOf (run isPart t))) look (past isPart t))
 
 unfoldable pub lineRead : (Form → List ℕ → Option ℤ) → List ℕ → Told
 lineRead look t = cond (nothing (skip t)) empty (cond (isLetter (headOf (skip t))) (wordRead look (skip t)) wrong)

@@ -4,30 +4,22 @@ mod operands; // operands.rt: registers and numbers
 
 use instructions::WRONG;
 use instructions::instruction;
-use labels::text::after_name;
+use labels::table::name_at;
 use labels::text::byte;
 use labels::text::letter;
 use labels::text::skip;
-use memory::bytes::number_at;
 use names::named;
 use opcode::Found;
 ghost use mathlib.Core.Path.{_≡_};
-ghost use Prim.Native.Nat.{_<_};
-ghost use lib.ListN.{length, drop};
-ghost use Rattle.memory.specs.Bytes.{numberOfBytes};
-ghost use Rattle.opcode.specs.Opcodes.{opcodeIn};
-ghost use Rattle.names.specs.Names.{nameNumber};
-ghost use Rattle.labels.specs.Bytes.{isPart};
-ghost use Rattle.labels.specs.Reading.{nameAt, Passed};
 ghost use Rattle.lines.specs.Reader.{lineRead};
 ghost use Rattle.lines.specs.Code.{startOf, labelsIn, saidOf, saidBy};
 
-// How a line begins: with nothing, as the definition of the label at a place, with a name that stands from one place to another and may
-// be an instruction's, or with something else.
+// How a line begins: with nothing, as the definition of the label at a place, with a name of this key, which may be an instruction's,
+// and something else at a place, or with something else.
 pub enum Start {
     Blank,
     Label(usize),
-    Word(usize, usize),
+    Word(u64, usize),
     Other,
 }
 
@@ -49,27 +41,15 @@ pub fn start_of(s: &[u8]) -> Start
     if !letter(byte(s, at)) {
         return Start::Other;
     }
-    let e = after_name(s, at);
-    let n = skip(s, e);
+    let name = name_at(s, at);
+    let n = skip(s, name.after);
     if byte(s, n) != b':' {
-        return Start::Word(at, e);
+        return Start::Word(name.key, n);
     }
     if skip(s, n + 1) < s.len() {
         return Start::Other;
     }
     Start::Label(at)
-}
-
-// The opcode whose name ends at e.
-fn opcode_at(s: &[u8], at: usize, e: usize) -> Found
-    requires { ⌜ Passed isPart (now s) at e × (at < length (now s)) ⌝ }
-    ensures { λ r. ⌜ r ≡ opcodeIn nameNumber (numberOfBytes (nameAt (now (s .entry)) at)) ⌝ }
-{
-    let n = e - at;
-    if 8 < n {
-        return Found::Nothing;
-    }
-    named(number_at(s, at, n))
 }
 
 fn word_or_bad(w: u64) -> Said
@@ -88,11 +68,11 @@ pub fn line(s: &[u8], text: &[u8], table: &[u64], own: u64) -> Said
     match start_of(s) {
         Start::Blank => Said::Blank,
         Start::Label(_) => Said::Name,
-        Start::Word(at, e) => {
-            let Found::Op(op) = opcode_at(s, at, e) else {
+        Start::Word(key, n) => {
+            let Found::Op(op) = named(key) else {
                 return Said::Bad;
             };
-            word_or_bad(instruction(s, text, table, own, op, e))
+            word_or_bad(instruction(s, text, table, own, op, n))
         }
         Start::Other => Said::Bad,
     }

@@ -9,6 +9,7 @@ use lib.ListN.{getD}
 use borrow.Author.Tests.{ne-eqb, leb-true}
 use Rattle.encoding.specs.Fields.{within}
 use Rattle.memory.specs.Bytes.{numberOfBytes}
+use Rattle.labels.specs.Bytes.{keyFrom, keyOf}
 use Rattle.opcode.specs.Opcodes.{opcodeNumber, all, firstWith, opcodeIn}
 use Rattle.opcode.specs.declared.Opcode.{Opcode}
 use Rattle.opcode.specs.declared.Opcode.the-variants as O
@@ -16,15 +17,15 @@ use Rattle.opcode.specs.declared.Found.{Found}
 use Rattle.opcode.specs.declared.Found.the-variants.{Op, Nothing}
 use Rattle.opcode.proofs.Arms.{everywhere}
 use Rattle.opcode.proofs.Variants.{place, all-at}
-use Rattle.names.specs.Names.{nameOf, nameNumber}
+use Rattle.names.specs.Names.{nameOf, nameNumber, nameKey}
 
 -- an opcode's name is found, so no two have the same
-pub found : (op : Opcode) → opcodeIn nameNumber (nameNumber op) ≡ Op op
-unfolding all firstWith numberOfBytes
-found = everywhere all O.Add place all-at (λ (op : Opcode). opcodeIn nameNumber (nameNumber op)) (λ (op : Opcode). Op op) refl refl
+pub found : (op : Opcode) → opcodeIn nameKey (nameKey op) ≡ Op op
+unfolding all firstWith keyFrom
+found = everywhere all O.Add place all-at (λ (op : Opcode). opcodeIn nameKey (nameKey op)) (λ (op : Opcode). Op op) refl refl
 
-pub distinct : (o p : Opcode) → nameNumber o ≡ nameNumber p → o ≡ p
-distinct o p e = let q : Op o ≡ Op p = sym (found o) ∙ ap (opcodeIn nameNumber) e ∙ found p in cc
+pub distinct : (o p : Opcode) → nameOf o ≡ nameOf p → o ≡ p
+distinct o p e = let q : Op o ≡ Op p = sym (found o) ∙ ap (λ (n : List ℕ). opcodeIn nameKey (keyOf n)) e ∙ found p in cc
 
 -- ---- the code's table
 pub numbered : (op : Opcode) → (1 ≤ opcodeNumber op) × (opcodeNumber op ≤ 50)
@@ -46,12 +47,12 @@ abbrev pub NoneOf : Type 0 → List ℕ → ℕ → Type 0
 NoneOf N [] w = N
 NoneOf N (k ∷ ks) w = NoneOf (N × (w ≡ k → ⊥)) ks w
 
-none-first : (N : Type 0) (os : List Opcode) (w : ℕ) → NoneOf N (map nameNumber os) w → N × (Nothing ≡ firstWith nameNumber os w)
+none-first : (N : Type 0) (os : List Opcode) (w : ℕ) → NoneOf N (map nameKey os) w → N × (Nothing ≡ firstWith nameKey os w)
 unfolding firstWith
 none-first N [] w n = (n, refl)
 none-first N (o ∷ os) w n =
-    let r = none-first (N × (w ≡ nameNumber o → ⊥)) os w n in
-    (r .0 .0, r .1 ∙ sym (ap (λ (t : Bool). cond t (Op o) (firstWith nameNumber os w)) (ne-eqb w (nameNumber o) (r .0 .1))))
+    let r = none-first (N × (w ≡ nameKey o → ⊥)) os w n in
+    (r .0 .0, r .1 ∙ sym (ap (λ (t : Bool). cond t (Op o) (firstWith nameKey os w)) (ne-eqb w (nameKey o) (r .0 .1))))
 
-pub none-named : (w : ℕ) → NoneOf (Unit {0}) (map nameNumber all) w → Nothing ≡ opcodeIn nameNumber w
+pub none-named : (w : ℕ) → NoneOf (Unit {0}) (map nameKey all) w → Nothing ≡ opcodeIn nameKey w
 none-named w n = none-first (Unit {0}) all w n .1

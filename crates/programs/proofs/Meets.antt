@@ -10,9 +10,9 @@ use lib.IntN.{ℤ}
 use lib.ListN.{length, getD, take, drop}
 use lib.Seq.{length-sets}
 use borrow.Author.Tests.{leb-true, leb-false, ne-eqb, not-true}
-use Rattle.labels.specs.Bytes.{isLetter, headOf}
+use Rattle.labels.specs.Bytes.{isLetter, headOf, keyOf}
 use Rattle.labels.specs.Reading.{nameAt}
-use Rattle.labels.specs.Table.{keyOf, slotsOf, searchIn, notedBy, withLabel}
+use Rattle.labels.specs.Table.{slotsOf, searchIn, notedBy, withLabel}
 use Rattle.labels.specs.declared.table.Slot.{Slot}
 use Rattle.labels.specs.declared.table.Slot.the-variants as Slot
 use Rattle.labels.specs.declared.table.Noted.{Noted}
@@ -22,8 +22,7 @@ use Rattle.opcode.specs.declared.Form.{Form}
 use Rattle.opcode.specs.declared.Found.{Found}
 use Rattle.opcode.specs.declared.Found.the-variants.{Op, Nothing}
 use mathlib.Core.Option.{Option, none, some}
-use Rattle.memory.specs.Bytes.{numberOfBytes}
-use Rattle.names.specs.Names.{nameNumber}
+use Rattle.names.specs.Names.{nameKey}
 use Rattle.lines.specs.Lines.{toldBy, named, wrong, kindsOf, wordOf}
 use Rattle.lines.specs.Reader.{lineRead, instructionRead, operandsRead}
 use Rattle.lines.specs.Code.{isEnd, startOf}
@@ -110,10 +109,10 @@ module _ (text table : List ℕ) (at before : ℕ) (t : Tally) (g : Noting text 
       go : (x : Start) → startOf (take (r .stop - at) (drop at text)) ≡ x → Kept (startAfter text table x at (before + 1) t)
       go Start.Blank e = ((noting-blank text table at before (t .own) (t .count) (t .second) g r spans (began s (startOf s) Start.Blank refl e noLabels), omega arith), refl)
       go (Start.Label p) e = kept-label p e
-      go (Start.Word p n) e = (
+      go (Start.Word key n) e = (
         (
-          noting-other text table at before (t .own) (t .count) (t .second) g r spans (instructionRead (opcodeIn nameNumber (numberOfBytes (nameAt s p))) noLabels (drop n s))
-              (began s (startOf s) (Start.Word p n) refl e .0 noLabels) (instruction-counts (opcodeIn nameNumber (numberOfBytes (nameAt s p))) noLabels (drop n s)),
+          noting-other text table at before (t .own) (t .count) (t .second) g r spans (instructionRead (opcodeIn nameKey key) noLabels (drop n s))
+              (began s (startOf s) (Start.Word key n) refl e noLabels) (instruction-counts (opcodeIn nameKey key) noLabels (drop n s)),
           omega arith,
         ),
         refl,

@@ -11,9 +11,9 @@ use lib.ListN.{length, take, drop, replicate, length-append, length-take, take-a
 use lib.Seq.{drop-drop, drop-append-le, length-sets}
 use borrow.Author.Tests.{ne-eqb, eqb-true}
 use Rattle.opcode.specs.declared.Form.{Form}
-use Rattle.labels.specs.Bytes.{isLetter, isPart, headOf, eqBytes}
+use Rattle.labels.specs.Bytes.{isLetter, isPart, headOf, eqBytes, keyOf}
 use Rattle.labels.specs.Reading.{run, past, skip, nameAt}
-use Rattle.labels.specs.Table.{keyOf, slotsOf, searchIn, withLabel}
+use Rattle.labels.specs.Table.{slotsOf, searchIn, withLabel}
 use Rattle.labels.specs.declared.table.Slot.{Slot}
 use Rattle.labels.specs.declared.table.Slot.the-variants as Slot
 use Rattle.labels.proofs.Spans.{run-past, every-run, run-append, past-head}

@@ -10,10 +10,9 @@ use lib.Dec.{eqb}
 use lib.IntN.{ℤ}
 use lib.ListN.{length, drop}
 use borrow.Author.Tests.{eq-eqb, ne-eqb}
-use Rattle.memory.specs.Bytes.{numberOfBytes}
 use Rattle.opcode.specs.Opcodes.{opcodeIn}
 use Rattle.opcode.specs.declared.Form.{Form}
-use Rattle.names.specs.Names.{nameNumber}
+use Rattle.names.specs.Names.{nameKey}
 use Rattle.labels.specs.Reading.{nameAt}
 use Rattle.labels.specs.Table.{indexIn}
 use Rattle.sums.specs.Sums.{distance}
@@ -126,12 +125,12 @@ module _ (text table : List ℕ) (labels : List Label) (looks : (own : ℕ) → 
         go : (x : Start) → startOf t ≡ x → Checks (lineRead (lookAt labels own) t) ≡ count own (Makes (lineRead (lookAt labels own) t))
         go Start.Blank q = let s = began t (startOf t) Start.Blank refl q in told-as empty (s (lookAt labels own)) (blank (by empty (s noLabels)))
         go (Start.Label p) q = let s = began t (startOf t) (Start.Label p) refl q in told-as (named (nameAt t p)) (s .0 (lookAt labels own)) (label (nameAt t p) (by (named (nameAt t p)) (s .0 noLabels)))
-        go (Start.Word p n) q =
-            let s = began t (startOf t) (Start.Word p n) refl q in
-            let f = opcodeIn nameNumber (numberOfBytes (nameAt t p)) in
+        go (Start.Word key n) q =
+            let s = began t (startOf t) (Start.Word key n) refl q in
+            let f = opcodeIn nameKey key in
             let c = instruction-counts f noLabels (drop n t) in
-            told-as (instructionRead f (lookAt labels own) (drop n t)) (s .0 (lookAt labels own))
-            (counts (instructionRead f (lookAt labels own) (drop n t)) (instruction-counts f (lookAt labels own) (drop n t)) (by (instructionRead f noLabels (drop n t)) (s .0 noLabels) ∙ by-counts (instructionRead f noLabels (drop n t)) c _ _ _))
+            told-as (instructionRead f (lookAt labels own) (drop n t)) (s (lookAt labels own))
+            (counts (instructionRead f (lookAt labels own) (drop n t)) (instruction-counts f (lookAt labels own) (drop n t)) (by (instructionRead f noLabels (drop n t)) (s noLabels) ∙ by-counts (instructionRead f noLabels (drop n t)) c _ _ _))
         go Start.Other q = let s = began t (startOf t) Start.Other refl q in told-as wrong (s (lookAt labels own)) (counts wrong tt (by wrong (s noLabels)))
 
   pass : (ts : List (List ℕ)) → Pass ts

@@ -6,8 +6,9 @@ use mathlib.Core.Option.{Option, none, some}
 use mathlib.Core.Path.{_≡_}
 use lib.Dec.{eqb, leb}
 use lib.ListN.{length, getD, take, drop}
+use Rattle.labels.specs.Bytes.{keyOf}
 use Rattle.labels.specs.Reading.{nameAt}
-use Rattle.labels.specs.Table.{keyOf, slotsOf, searchIn, indexIn, withLabel}
+use Rattle.labels.specs.Table.{slotsOf, searchIn, indexIn, withLabel}
 use Rattle.labels.specs.declared.table.Slot.{Slot}
 use Rattle.labels.specs.declared.table.Slot.the-variants as Slot
 use Rattle.lines.specs.Lines.{Told}

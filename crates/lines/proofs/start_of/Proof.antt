@@ -1,70 +1,71 @@
-use Rattle.lines.proofs.Starts.{start-blank, start-other, start-word, start-more, start-label}
-use Rattle.sums.proofs.Terms.{at-byte}
-use Rattle.labels.specs.Bytes.{isLetter}
-use borrow.Author.Tests.{not-true, not-false}
-use native.Mathlib.Omega.{arith}
 use mathlib.Core.Path.{_≡_, sym, ap, _∙_}
+use native.Mathlib.Omega.{arith}
+use borrow.Author.Tests.{not-true, not-false}
+use Rattle.labels.specs.Bytes.{isLetter}
+use Rattle.labels.specs.declared.table.Name.{Name}
+use Rattle.sums.proofs.Terms.{at-byte}
+use Rattle.lines.proofs.Starts.{start-blank, start-other, start-word, start-more, start-label}
 use borrow.Author.Needs.{needs}
 use Rattle.lines.proofs.start_of.Statement.{statement}
 use Rattle.lines.proofs.start_of.Tie as tie
 use Rattle.lines.proofs.start_of.Reads as reads
 use Rattle.lines.proofs.start_of.Lts as lts
-use Rattle.labels.proofs.text.after_name.Reads as after-name-reads
+use Rattle.labels.proofs.table.name_at.Reads as name-at-reads
 use Rattle.labels.proofs.text.byte.Reads as byte-reads
 use Rattle.labels.proofs.text.letter.Reads as letter-reads
 use Rattle.labels.proofs.text.skip.Reads as skip-reads
 
--- src/lib.rt:44:9
+-- src/lib.rt:37:9
 skip-requires : tie.Need-skip-requires
 skip-requires c κs = search needs
 
--- src/lib.rt:46:9
+-- src/lib.rt:39:9
 returns : tie.Need-returns
 returns c = start-blank (c .before .before .before .args .s .now) (c .before .skip .result) (c .before .skip .ensures) (c .if1 .taken)
 
--- src/lib.rt:48:16
+-- src/lib.rt:41:16
 byte-requires : tie.Need-byte-requires
 byte-requires c κs = search needs
 
--- src/lib.rt:48:9
+-- src/lib.rt:41:9
 letter-requires : tie.Need-letter-requires
 letter-requires c κs = search needs
 
--- src/lib.rt:49:9
+-- src/lib.rt:42:9
 returns-2 : tie.Need-returns-2
 returns-2 c = start-other (c .before .before .before .before .before .before .args .s .now) (c .before .before .before .before .skip .result) (c .before .before .before .before .skip .ensures) (c .before .before .before .if1 .left) (sym (c .before .letter .ensures ∙ ap isLetter (c .before .before .byte .ensures)) ∙ not-true _ (c .if2 .taken))
 
--- src/lib.rt:51:9
-after-name-requires : tie.Need-after-name-requires
-after-name-requires c κs = search needs
+-- src/lib.rt:44:9
+name-at-requires : tie.Need-name-at-requires
+name-at-requires c κs = search needs
 
--- src/lib.rt:52:9
+-- src/lib.rt:45:9
 skip-requires-2 : tie.Need-skip-requires-2
 skip-requires-2 c κs = search needs
 
--- src/lib.rt:53:8
+-- src/lib.rt:46:8
 byte-requires-2 : tie.Need-byte-requires-2
 byte-requires-2 c κs = search needs
 
--- src/lib.rt:54:9
+-- src/lib.rt:47:9
 returns-3 : tie.Need-returns-3
-returns-3 c = start-word (c .before .before .before .before .before .before .before .before .before .before .args .s .now) (c .before .before .before .before .before .before .before .before .skip .result) (c .before .before .before .before .before .before .before .before .skip .ensures) (c .before .before .before .before .before .before .before .if1 .left) (sym (c .before .before .before .before .before .letter .ensures ∙ ap isLetter (c .before .before .before .before .before .before .byte .ensures)) ∙ not-false _ (c .before .before .before .before .if2 .left)) (c .before .before .before .after-name .result) (c .before .before .skip2 .result) (c .before .before .before .after-name .ensures) (c .before .before .skip2 .ensures) (λ z. c .if3 .taken (c .before .byte2 .ensures ∙ z))
+returns-3 c = start-word (c .before .before .before .before .before .before .before .before .before .before .args .s .now) (c .before .before .before .before .before .before .before .before .skip .result) (c .before .before .before .before .before .before .before .before .skip .ensures) (c .before .before .before .before .before .before .before .if1 .left) (sym (c .before .before .before .before .before .letter .ensures ∙ ap isLetter (c .before .before .before .before .before .before .byte .ensures)) ∙ not-false _ (c .before .before .before .before .if2 .left)) (c .before .before .before .name-at .result .after) (c .before .before .skip2 .result) (ap (λ (n : Name). n .after) (c .before .before .before .name-at .ensures)) (c .before .before .skip2 .ensures) (λ z. c .if3 .taken (c .before .byte2 .ensures ∙ z)) (c .before .before .before .name-at .result .key) (ap (λ (n : Name). n .key) (c .before .before .before .name-at .ensures))
 
--- src/lib.rt:56:16
+-- src/lib.rt:49:16
 add-skip : tie.Need-add-skip
 add-skip c = omega (arith, at-byte (c .before .before .before .before .before .before .before .before .before .before .args .s .now) (c .before .before .skip2 .result) 57 (sym (c .before .byte2 .ensures) ∙ c .if3 .left))
 
--- src/lib.rt:56:8
+-- src/lib.rt:49:8
 skip-requires-3 : tie.Need-skip-requires-3
 skip-requires-3 c κs = search needs
 
--- src/lib.rt:57:9
+-- src/lib.rt:50:9
 returns-4 : tie.Need-returns-4
-returns-4 c = start-more (c .before .before .before .before .before .before .before .before .before .before .before .before .args .s .now) (c .before .before .before .before .before .before .before .before .before .before .skip .result) (c .before .before .before .before .before .before .before .before .before .before .skip .ensures) (c .before .before .before .before .before .before .before .before .before .if1 .left) (sym (c .before .before .before .before .before .before .before .letter .ensures ∙ ap isLetter (c .before .before .before .before .before .before .before .before .byte .ensures)) ∙ not-false _ (c .before .before .before .before .before .before .if2 .left)) (c .before .before .before .before .before .after-name .result) (c .before .before .before .before .skip2 .result) (c .before .before .before .before .before .after-name .ensures) (c .before .before .before .before .skip2 .ensures) (sym (c .before .before .before .byte2 .ensures) ∙ c .before .before .if3 .left) (c .before .skip3 .result) (c .before .skip3 .ensures) (c .if4 .taken)
+returns-4 c = start-more (c .before .before .before .before .before .before .before .before .before .before .before .before .args .s .now) (c .before .before .before .before .before .before .before .before .before .before .skip .result) (c .before .before .before .before .before .before .before .before .before .before .skip .ensures) (c .before .before .before .before .before .before .before .before .before .if1 .left) (sym (c .before .before .before .before .before .before .before .letter .ensures ∙ ap isLetter (c .before .before .before .before .before .before .before .before .byte .ensures)) ∙ not-false _ (c .before .before .before .before .before .before .if2 .left)) (c .before .before .before .before .before .name-at .result .after) (c .before .before .before .before .skip2 .result) (ap (λ (n : Name). n .after) (c .before .before .before .before .before .name-at .ensures)) (c .before .before .before .before .skip2 .ensures) (sym (c .before .before .before .byte2 .ensures) ∙ c .before .before .if3 .left) (c .before .skip3 .result) (c .before .skip3 .ensures) (c .if4 .taken)
 
--- src/lib.rt:41:1
+-- src/lib.rt:34:1
 returns-5 : tie.Need-returns-5
-returns-5 c = start-label (c .before .before .before .before .before .before .before .before .before .before .before .before .args .s .now) (c .before .before .before .before .before .before .before .before .before .before .skip .result) (c .before .before .before .before .before .before .before .before .before .before .skip .ensures) (c .before .before .before .before .before .before .before .before .before .if1 .left) (sym (c .before .before .before .before .before .before .before .letter .ensures ∙ ap isLetter (c .before .before .before .before .before .before .before .before .byte .ensures)) ∙ not-false _ (c .before .before .before .before .before .before .if2 .left)) (c .before .before .before .before .before .after-name .result) (c .before .before .before .before .skip2 .result) (c .before .before .before .before .before .after-name .ensures) (c .before .before .before .before .skip2 .ensures) (sym (c .before .before .before .byte2 .ensures) ∙ c .before .before .if3 .left) (c .before .skip3 .result) (c .before .skip3 .ensures) (c .if4 .left)
+returns-5 c = start-label (c .before .before .before .before .before .before .before .before .before .before .before .before .args .s .now) (c .before .before .before .before .before .before .before .before .before .before .skip .result) (c .before .before .before .before .before .before .before .before .before .before .skip .ensures) (c .before .before .before .before .before .before .before .before .before .if1 .left) (sym (c .before .before .before .before .before .before .before .letter .ensures ∙ ap isLetter (c .before .before .before .before .before .before .before .before .byte .ensures)) ∙ not-false _ (c .before .before .before .before .before .before .if2 .left)) (c .before .before .before .before .before .name-at .result .after) (c .before .before .before .before .skip2 .result) (ap (λ (n : Name). n .after) (c .before .before .before .before .before .name-at .ensures)) (c .before .before .before .before .skip2 .ensures) (sym (c .before .before .before .byte2 .ensures) ∙ c .before .before .if3 .left) (c .before .skip3 .result) (c .before .skip3 .ensures) (c .if4 .left)
 
 pub start-of-spec : {M : Type 1} → statement M
 start-of-spec =
@@ -75,7 +76,7 @@ start-of-spec =
     byte-requires
     letter-requires
     returns-2
-    after-name-requires
+    name-at-requires
     skip-requires-2
     byte-requires-2
     returns-3

@@ -1,3 +1,4 @@
+use Rattle.labels.specs.Bytes.{keyOf}
 use Rattle.labels.specs.declared.table.Name.{Name}
 use Rattle.labels.specs.declared.table.Noted.{Noted}
 use lib.Seq.{sets}
@@ -5,7 +6,7 @@ use Prim.Native.Nat.{ℕ, _*_}
 use mathlib.Core.List.{List, [], _∷_}
 use Rattle.labels.proofs.Searches.{free-below, three-sets}
 use Rattle.labels.specs.declared.table.Slot.{Slot}
-use Rattle.labels.specs.Table.{keyOf, notedBy, withLabel}
+use Rattle.labels.specs.Table.{notedBy, withLabel}
 use Rattle.labels.specs.Reading.{nameAt}
 use lib.ListN.{length, length-set}
 use native.Mathlib.Omega.{arith}

@@ -1,8 +1,8 @@
 use Rattle.labels.proofs.Searches.{search-free, search-held, search-on}
 use Rattle.labels.specs.declared.table.Name.{Name}
-use Rattle.labels.specs.Table.{keyOf, slotsOf, homeOf, searchFrom, searchIn}
+use Rattle.labels.specs.Table.{slotsOf, homeOf, searchFrom, searchIn}
 use Rattle.labels.specs.Reading.{nameAt}
-use Rattle.labels.specs.Bytes.{eqBytes}
+use Rattle.labels.specs.Bytes.{eqBytes, keyOf}
 use lib.ListN.{length, getD}
 use lib.Dec.{eqb}
 use native.Mathlib.Omega.{arith}

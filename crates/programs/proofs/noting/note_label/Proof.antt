@@ -1,7 +1,8 @@
 use Rattle.programs.proofs.Meets.{after-new, after-again, after-full}
 use Rattle.programs.specs.declared.noting.Met.the-variants as Met
 use Rattle.programs.specs.Code.{After, after, defined, secondBy, slotAfter, labelAfter}
-use Rattle.labels.specs.Table.{keyOf, slotsOf, searchIn, withLabel}
+use Rattle.labels.specs.Bytes.{keyOf}
+use Rattle.labels.specs.Table.{slotsOf, searchIn, withLabel}
 use Rattle.labels.specs.Reading.{nameAt}
 use borrow.Author.Tests.{le-leb, lt-leb}
 use Prim.Native.Nat.{ℕ}
