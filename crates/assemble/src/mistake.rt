@@ -8,12 +8,11 @@ use crate::read::NOT_ALONE;
 use crate::read::Read;
 use crate::read::past;
 use forms::form_of;
-use labels::text::after_name;
+use labels::table::name_at;
 use labels::text::byte;
 use labels::text::digit;
 use labels::text::letter;
 use labels::text::skip;
-use memory::bytes::number_at;
 use names::named;
 use opcode::Found;
 
@@ -36,18 +35,6 @@ fn first_foreign(s: &[u8]) -> usize {
     at
 }
 
-// The instruction whose name stands from one place to another.
-fn instruction(s: &[u8], at: usize, end: usize) -> Found {
-    if end < at {
-        return Found::Nothing;
-    }
-    let n = end - at;
-    if 8 < n {
-        return Found::Nothing;
-    }
-    named(number_at(s, at, n))
-}
-
 // The definition of a label, from behind its colon on. It is bad if an earlier line has the same.
 fn definition(s: &[u8], name: usize, at: usize) -> Read {
     let n = skip(s, at);
@@ -67,13 +54,13 @@ pub fn mistake_in(s: &[u8], text: &[u8], table: &[u64], own: u64) -> Read {
     if !letter(byte(s, at)) {
         return Read::Wrong(NO_NAME, at);
     }
-    let end = after_name(s, at);
-    let behind = skip(s, end);
+    let name = name_at(s, at);
+    let behind = skip(s, name.after);
     if byte(s, behind) == b':' {
         return definition(s, at, past(s, behind));
     }
-    let Found::Op(op) = instruction(s, at, end) else {
+    let Found::Op(op) = named(name.key) else {
         return Read::Wrong(NO_INSTRUCTION, at);
     };
-    operands(s, text, table, own, form_of(op), end)
+    operands(s, text, table, own, form_of(op), name.after)
 }

@@ -9,7 +9,7 @@ use crate::read::Read;
 use crate::read::TOO_MUCH;
 use crate::read::past;
 use crate::terms::sum;
-use labels::text::after_name;
+use labels::table::name_at;
 use labels::text::byte;
 use labels::text::digit;
 use labels::text::skip;
@@ -42,7 +42,7 @@ fn comma(s: &[u8], at: usize) -> Read {
 fn is_register(s: &[u8], at: usize) -> bool {
     let first = past(s, at);
     let second = past(s, first);
-    let end = after_name(s, at);
+    let end = name_at(s, at).after;
     if byte(s, at) != b'R' {
         return false;
     }
@@ -61,7 +61,7 @@ fn register(s: &[u8], at: usize) -> Read {
     if !is_register(s, n) {
         return Read::Wrong(NO_REGISTER, n);
     }
-    Read::Passed(after_name(s, n))
+    Read::Passed(name_at(s, n).after)
 }
 
 fn next_register(s: &[u8], at: usize) -> Read {

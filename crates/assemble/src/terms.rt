@@ -16,7 +16,6 @@ use crate::values::joined;
 use crate::values::of_digits;
 use labels::table::Found;
 use labels::table::find;
-use labels::text::after_name;
 use labels::text::byte;
 use labels::text::digit;
 use labels::text::letter;
@@ -78,7 +77,7 @@ fn number(s: &[u8], start: usize) -> Read {
 
 fn label(s: &[u8], text: &[u8], table: &[u64], base: u64, at: usize) -> Read {
     match find(text, table, s, at) {
-        Found::At(index) => Read::Value(distance(base, index), after_name(s, at)),
+        Found::At(index, end) => Read::Value(distance(base, index), end),
         Found::Nothing => Read::Wrong(UNKNOWN_LABEL, at),
     }
 }

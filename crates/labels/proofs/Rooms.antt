@@ -1,15 +1,14 @@
 -- How many slots of a table are taken: a search that finds no free one has seen them all. Assumes nothing.
-use mathlib.Core.Path.{_≡_, refl, sym, ap, _∙_, subst}
+use mathlib.Core.Path.{_≡_, refl, ap, _∙_, subst}
 use mathlib.Core.Bool.{Bool, true, false, cond}
 use mathlib.Core.List.{List}
 use mathlib.Core.Logic.{_⊎_, inl, inr}
 use Prim.Native.Nat.{ℕ, zero, suc, _+_, _-_, _≤_, _<_}
 use native.Mathlib.Omega.{arith}
 use lib.Dec.{eqb, leb, ltb}
-use borrow.Author.Tests.{eq-eqb, ne-eqb, eqb-true, eqb-false, leb-true, leb-false, lt-ltb, le-ltb, ltb-true, ltb-false}
+use borrow.Author.Tests.{eq-eqb, ne-eqb, eqb-true, eqb-false, leb-true, leb-false, lt-ltb, le-ltb, ltb-true}
 use Rattle.labels.specs.Bytes.{keyOf}
 use Rattle.labels.specs.Table.{slotsOf, keyAt, homeOf, nextOf, holds, searchFrom, searchIn}
-use Rattle.labels.specs.declared.table.Slot.{Slot}
 use Rattle.labels.specs.declared.table.Slot.the-variants.{Held, Free, Full}
 use Rattle.labels.proofs.Searches.{next-below, home-below}
 use Rattle.labels.proofs.Noting.{Changed}

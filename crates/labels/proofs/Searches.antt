@@ -1,6 +1,6 @@
 -- One slot of the table after another. Assumes nothing.
 use mathlib.Core.Path.{_≡_, refl, sym, ap, _∙_, subst}
-use mathlib.Core.Bool.{Bool, true, false, cond, _&&_}
+use mathlib.Core.Bool.{Bool, true, false, cond}
 use mathlib.Core.List.{List, [], _∷_}
 use Prim.Native.Nat.{ℕ, zero, suc, _+_, _-_, _*_, _/_, _^_, _≤_, _<_}
 use native.Mathlib.Nat.{mod-lt, mul-lt-mul-of-pos-right}
@@ -10,9 +10,8 @@ use lib.ListN.{set}
 use lib.Seq.{sets}
 use borrow.Author.Tests.{eq-eqb, ne-eqb, eqb-false, ltb-false, lt-ltb, le-ltb}
 use lib.Dec.{eqb, ltb}
-use Rattle.labels.specs.Bytes.{eqBytes, keyOf}
-use Rattle.labels.specs.Reading.{nameAt}
-use Rattle.labels.specs.Table.{slotsOf, placeAt, keyAt, spreadOf, homeOf, nextOf, holds, searchFrom, searchIn}
+use Rattle.labels.specs.Bytes.{keyOf}
+use Rattle.labels.specs.Table.{slotsOf, keyAt, spreadOf, homeOf, nextOf, holds, searchFrom, searchIn}
 use Rattle.labels.specs.declared.table.Slot.{Slot}
 use Rattle.labels.specs.declared.table.Slot.the-variants.{Held, Free, Full}
 

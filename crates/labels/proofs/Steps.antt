@@ -1,14 +1,14 @@
 -- One byte on: what the loops over a text keep. Assumes nothing.
-use mathlib.Core.Path.{_≡_, refl, sym, ap, _∙_, subst}
+use mathlib.Core.Path.{_≡_, refl, sym, ap, _∙_}
 use mathlib.Core.Bool.{Bool, true, false, cond, not, _&&_}
 use mathlib.Core.List.{List, [], _∷_}
-use Prim.Native.Nat.{ℕ, zero, suc, _+_, _-_, _*_, _%_, _^_, _≤_, _<_}
+use Prim.Native.Nat.{ℕ, suc, _+_, _-_, _*_, _%_, _^_, _≤_, _<_}
 use native.Mathlib.Omega.{arith}
-use lib.Dec.{eqb, leb}
+use lib.Dec.{leb}
 use lib.Seq.{drop-drop}
 use lib.ListN.{length, drop, length-drop, length-append, List·getD-eq-default}
 use borrow.Author.Tests.{eq-eqb, ne-eqb, leb-true, leb-false}
-use Rattle.labels.specs.Bytes.{isSpace, isDigit, isPart, decimalFrom, headOf, eqBytes, keyFrom, keyOf}
+use Rattle.labels.specs.Bytes.{isPart, headOf, eqBytes, keyFrom, keyOf}
 use Rattle.labels.specs.Reading.{tailOf, run, past, nameAt, Passed}
 use Rattle.labels.specs.Table.{nameFrom}
 use Rattle.labels.proofs.Spans.{head-drop, tail-drop, inside, past-stop, past-on, run-past, run-stop, run-on}

@@ -1,13 +1,13 @@
 -- A table that gives the labels noted in it. Assumes nothing.
-use mathlib.Core.Path.{_≡_, refl, sym, ap, _∙_, subst}
-use mathlib.Core.Bool.{Bool, true, false, cond, _&&_}
+use mathlib.Core.Path.{_≡_, refl, sym, ap, _∙_}
+use mathlib.Core.Bool.{Bool, true, false, cond}
 use mathlib.Core.List.{List, [], _∷_}
 use mathlib.Core.Option.{Option, none, some}
 use Prim.Native.Nat.{ℕ, zero, suc, _+_, _*_, _/_, _%_, _^_, _≤_, _<_}
 use native.Mathlib.Numerals.{add-one, add-two}
 use native.Mathlib.Omega.{arith}
 use lib.Dec.{ltb}
-use lib.ListN.{length, getD, set, drop, replicate, length-set, length-replicate, List·getD-eq-default}
+use lib.ListN.{length, getD, set, drop, replicate, length-set}
 use lib.Seq.{sets, length-sets, getD-set-same, getD-set-other}
 use Rattle.labels.specs.Bytes.{isLetter, isPart, every, headOf, eqBytes, keyFrom, keyOf}
 use Rattle.labels.specs.Reading.{tailOf, run, nameAt}

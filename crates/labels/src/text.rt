@@ -46,17 +46,3 @@ pub fn skip(s: &[u8], at: usize) -> usize
         n += 1;
     }
 }
-
-// The place after the letters and digits at a place.
-pub fn after_name(s: &[u8], at: usize) -> usize
-    ensures { λ r. ⌜ r ≡ at + length (run isPart (drop at (now (s .entry)))) ⌝ }
-{
-    let mut n = at;
-    loop {
-        let c = byte(s, n);
-        if !part(c) {
-            return n;
-        }
-        n += 1;
-    }
-}

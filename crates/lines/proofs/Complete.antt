@@ -1,5 +1,5 @@
 -- Whatever spells a line is read as what it says. Assumes nothing.
-use mathlib.Core.Path.{_≡_, refl, sym, ap, _∙_, subst}
+use mathlib.Core.Path.{_≡_, refl, ap, _∙_, subst}
 use mathlib.Core.Bool.{Bool, true, false, cond, _&&_, _||_}
 use mathlib.Core.List.{List, [], _∷_, _++_, append-assoc}
 use mathlib.Core.Option.{Option, none, some}
@@ -7,27 +7,26 @@ use Prim.Native.Nat.{ℕ, zero, suc, _+_, _-_, _≤_, _<_}
 use native.Mathlib.Omega.{arith}
 use lib.Dec.{eqb, leb, ltb}
 use lib.IntN.{ℤ, pos}
-use lib.ListN.{length, replicate-append-replicate}
-use borrow.Author.Tests.{leb-false, ltb-true, ltb-false, lt-ltb, le-leb, lt-leb, ne-eqb, eqb-true}
+use lib.ListN.{replicate-append-replicate}
+use borrow.Author.Tests.{leb-false, ltb-true, ltb-false, le-leb, lt-leb, ne-eqb}
 use Rattle.opcode.specs.Opcodes.{all, opcodeIn, formOf}
 use Rattle.opcode.specs.declared.Opcode.{Opcode}
 use Rattle.opcode.specs.declared.Opcode.the-variants as O
 use Rattle.opcode.specs.declared.Form.{Form}
 use Rattle.opcode.specs.declared.Found.{Found}
-use Rattle.opcode.specs.declared.Found.the-variants.{Op, Nothing}
 use Rattle.opcode.proofs.Arms.{everywhere}
 use Rattle.opcode.proofs.Variants.{place, all-at}
 use Rattle.names.specs.Names.{registerText, nameOf, nameKey}
 use Rattle.names.proofs.Fifty.{found}
 use Rattle.labels.specs.Bytes.{isSpace, isDigit, isLetter, isPart, every, isName, isNumber, spaces, headOf, keyOf}
-use Rattle.sums.specs.Sums.{Sum, Term, number as numeral, label, group, unsigned, plus, minus, sumText, termText, restText, sumValue}
+use Rattle.sums.specs.Sums.{Term, number as numeral, label, group, unsigned, plus, minus, termText, restText}
 use Rattle.labels.specs.Reading.{tailOf, run, past, skip}
-use Rattle.sums.specs.Reader.{Got, got, bad, given, onto, sumRead}
+use Rattle.sums.specs.Reader.{Got, got, bad, given, onto}
 use Rattle.labels.proofs.Spans.{both-true, past-stop, past-append, run-append, skip-spaces}
-use Rattle.sums.proofs.Complete.{Ends, complete, term-head, space-apart}
-use Rattle.labels.proofs.Classes.{or-true, or-false, or-cases, digit-low, digit-high, letter-low, digit-no-letter}
-use Rattle.lines.specs.Lines.{Kind, register, immediate, kindsOf, Operand, reg, sum, Operands, without, last, more, Line, blank, defines, instruction, operandText, operandsText, argumentsText, lineText, operandValue, push, operandsValues, wordOf, Told, empty, named, word, wrong, toldBy, lineTold}
-use Rattle.lines.specs.Reader.{isTeen, registerRead, operandRead, nothing, with, operandsRead, instructionRead, wordRead, lineRead}
+use Rattle.sums.proofs.Complete.{Ends, complete, space-apart}
+use Rattle.labels.proofs.Classes.{or-true, or-false, digit-low, digit-high, letter-low}
+use Rattle.lines.specs.Lines.{Kind, kindsOf, Operand, reg, sum, Operands, without, last, more, Line, blank, defines, instruction, operandText, operandsText, argumentsText, lineText, operandValue, push, operandsValues, wordOf, empty, named, wrong, toldBy, lineTold}
+use Rattle.lines.specs.Reader.{registerRead, operandRead, nothing, with, operandsRead, instructionRead, wordRead, lineRead}
 
 pub skip-all : (n : ℕ) → skip (spaces n) ≡ []
 unfolding past

@@ -1,6 +1,6 @@
 -- A name of seven bytes or fewer is the only one with its key. Assumes nothing.
 use mathlib.Core.Path.{_≡_, refl, sym, ap, _∙_}
-use mathlib.Core.Bool.{true, _&&_}
+use mathlib.Core.Bool.{true}
 use mathlib.Core.List.{List, [], _∷_, _++_}
 use Prim.Native.Nat.{ℕ, zero, suc, _+_, _*_, _/_, _%_, _^_, _≤_, _<_}
 use native.Mathlib.Nat.{pow-suc, zero-mod, mod-lt, mod-eq-of-lt, div-add-mod', mul-assoc, mul-add-mod-self-right}

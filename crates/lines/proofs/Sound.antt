@@ -1,9 +1,9 @@
 -- Whatever is read of a line is what a line with that text says. Assumes nothing.
 use mathlib.Core.Path.{_≡_, refl, sym, ap, _∙_, subst}
-use mathlib.Core.Bool.{Bool, true, false, cond, _&&_, _||_}
+use mathlib.Core.Bool.{Bool, true, false, cond, _&&_}
 use mathlib.Core.List.{List, [], _∷_, _++_, append-assoc}
 use mathlib.Core.Option.{Option, none, some}
-use Prim.Native.Nat.{ℕ, zero, suc, _+_, _-_, _*_, _≤_, _<_}
+use Prim.Native.Nat.{ℕ, zero, suc, _+_, _-_, _≤_}
 use native.Mathlib.Omega.{arith}
 use lib.Dec.{eqb, leb, ltb}
 use lib.IntN.{ℤ, pos}
@@ -20,14 +20,13 @@ use Rattle.opcode.proofs.Arms.{everywhere}
 use Rattle.opcode.proofs.Variants.{place, all-at}
 use Rattle.opcode.proofs.Numberings.{number-found}
 use Rattle.names.specs.Names.{registerText, nameOf, nameKey}
-use Rattle.labels.specs.Bytes.{isSpace, isDigit, isLetter, isPart, every, isName, spaces, headOf, keyOf}
-use Rattle.sums.specs.Sums.{sumText, sumValue}
+use Rattle.labels.specs.Bytes.{isSpace, isDigit, isLetter, isPart, spaces, headOf, keyOf}
 use Rattle.labels.specs.Reading.{tailOf, run, past, skip}
-use Rattle.sums.specs.Reader.{Got, got, bad, given, onto, sumRead}
+use Rattle.sums.specs.Reader.{Got, got, bad}
 use Rattle.labels.proofs.Spans.{both-true, run-past, every-run, past-head}
-use Rattle.labels.proofs.Classes.{digit-low, digit-high, letter-low, or-cases}
+use Rattle.labels.proofs.Classes.{digit-low, digit-high}
 use Rattle.sums.proofs.Sound.{sound, bad-got, cons-is, skipped, is-name, onto-got}
-use Rattle.lines.specs.Lines.{Kind, register, immediate, kindsOf, Operand, reg, sum, Operands, without, last, more, Line, blank, defines, instruction, operandText, operandsText, argumentsText, lineText, operandValue, push, operandsValues, wordOf, Told, empty, named, word, wrong, toldBy, lineTold}
+use Rattle.lines.specs.Lines.{Kind, register, immediate, kindsOf, Operand, reg, sum, Operands, without, last, more, Line, blank, defines, instruction, operandText, operandsText, argumentsText, lineText, operandValue, push, operandsValues, wordOf, Told, empty, named, wrong, toldBy, lineTold}
 use Rattle.lines.specs.Reader.{isTeen, registerRead, operandRead, nothing, with, operandsRead, instructionRead, wordRead, lineRead}
 use Rattle.lines.proofs.Complete.{append-none, name-is, parts-of}
 use Rattle.lines.proofs.Names.{turned, one-key}

@@ -1,24 +1,22 @@
 -- What the reader's definitions say of a line from a place on, case by case. Assumes nothing.
-use mathlib.Core.Path.{_≡_, refl, sym, ap, _∙_, subst}
+use mathlib.Core.Path.{_≡_, refl, sym, ap, _∙_}
 use mathlib.Core.Bool.{Bool, true, false, cond, _&&_}
 use mathlib.Core.List.{List, [], _∷_}
-use mathlib.Core.Option.{Option, none, some}
+use mathlib.Core.Option.{Option}
 use Prim.Native.Nat.{ℕ, zero, suc, _+_, _-_, _≤_, _<_}
 use native.Mathlib.Omega.{arith}
 use lib.IntN.{ℤ, pos}
 use lib.Dec.{eqb, leb}
 use lib.ListN.{length, drop, drop-of-length-le}
 use borrow.Author.Tests.{eq-eqb, ne-eqb, eqb-true, leb-true}
-use Rattle.labels.specs.Bytes.{isSpace, isDigit, isLetter, isPart, headOf}
-use Rattle.labels.specs.Reading.{tailOf, run, past, skip, Passed}
+use Rattle.labels.specs.Bytes.{isSpace, isDigit, headOf}
+use Rattle.labels.specs.Reading.{tailOf, skip, Passed}
 use Rattle.sums.specs.Reader.{Got, got, bad, onto, sumRead}
-use Rattle.sums.specs.Code.{of64, seen, Past}
-use Rattle.sums.specs.declared.Read.{Read}
-use Rattle.sums.specs.declared.Read.the-variants.{Value, Bad}
-use Rattle.labels.proofs.Spans.{both-true, inside, tail-drop}
+use Rattle.sums.specs.declared.Read.the-variants.{Bad}
+use Rattle.labels.proofs.Spans.{both-true, tail-drop}
 use Rattle.lines.specs.Lines.{Kind, register, immediate}
-use Rattle.lines.specs.Reader.{registerRead, operandRead, nothing, isTeen}
-use Rattle.lines.specs.Code.{isTwo, commaRead, lastRead, regSeen, Within}
+use Rattle.lines.specs.Reader.{registerRead, operandRead, nothing}
+use Rattle.lines.specs.Code.{isTwo, commaRead, lastRead, regSeen}
 use Rattle.lines.specs.declared.operands.Reg.{Reg}
 use Rattle.lines.specs.declared.operands.Reg.the-variants as Reg
 

@@ -1,9 +1,9 @@
 -- The operands of an instruction one by one, and its word. Assumes nothing.
-use mathlib.Core.Path.{_≡_, refl, sym, ap, _∙_, subst}
+use mathlib.Core.Path.{_≡_, refl, sym, ap, _∙_}
 use mathlib.Core.Bool.{Bool, true, false, cond}
 use mathlib.Core.List.{List, [], _∷_}
 use mathlib.Core.Option.{Option, none, some}
-use Prim.Native.Nat.{ℕ, zero, suc, _+_, _-_, _%_, _^_, _≤_, _<_}
+use Prim.Native.Nat.{ℕ, _+_, _-_, _%_, _^_, _≤_, _<_}
 use native.Mathlib.Omega.{arith}
 use lib.Dec.{eqb, ltb}
 use lib.IntN.{ℤ, pos}
@@ -19,12 +19,11 @@ use Rattle.words.specs.Words.{encodedIn}
 use Rattle.labels.specs.Bytes.{headOf, isSpace}
 use Rattle.labels.specs.Reading.{tailOf, skip, Passed}
 use Rattle.sums.specs.Reader.{Got, got, bad, onto}
-use Rattle.sums.specs.Sums.{dif}
 use Rattle.sums.specs.Code.{of64}
 use Rattle.lines.proofs.Steps.{nothing-end, nothing-not}
 use lib.ListN.{length, drop}
 use Rattle.sums.proofs.Differences.{dif-ge, dif-lt}
-use Rattle.lines.specs.Lines.{Kind, register, immediate, kindsOf, push, bits, parts, partsBy, wordIn, wordOf, toldBy, Told, word, wrong}
+use Rattle.lines.specs.Lines.{Kind, register, kindsOf, push, parts, partsBy, wordIn, wordOf, toldBy, Told, word, wrong}
 use Rattle.lines.specs.Reader.{operandRead, nothing, with, operandsRead}
 use Rattle.lines.specs.Code.{commaRead, lastRead, wordSaid, isNumbered}
 

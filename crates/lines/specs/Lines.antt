@@ -1,7 +1,7 @@
 -- A line of the assembler's language: what can be written, as trees that hold every space; the text of a tree; the word of an
 -- instruction. "One instruction a line, operands in the order rd, rs1, rs2, immediate as far as present; commas between operands."
 use Prim.Native.Nat.{ℕ, zero, suc, _+_}
-use mathlib.Core.Bool.{true, cond}
+use mathlib.Core.Bool.{true}
 use mathlib.Core.List.{List, [], _∷_, _++_}
 use mathlib.Core.Option.{Option, none, some}
 use mathlib.Core.Path.{_≡_}

@@ -1,5 +1,5 @@
 -- Inner: what a line is read as, from the text that is left. Lines.antt says what is right.
-use Prim.Native.Nat.{ℕ, zero, suc, _+_, _-_}
+use Prim.Native.Nat.{ℕ, _-_}
 use mathlib.Core.Bool.{Bool, true, false, cond, _&&_}
 use mathlib.Core.List.{List, [], _∷_}
 use mathlib.Core.Option.{Option, none, some}
@@ -13,7 +13,7 @@ use Rattle.names.specs.Names.{nameKey}
 use Rattle.labels.specs.Bytes.{isDigit, isLetter, isPart, headOf, keyOf}
 use Rattle.labels.specs.Reading.{tailOf, run, past, skip}
 use Rattle.sums.specs.Reader.{Got, got, bad, onto, sumRead}
-use Rattle.lines.specs.Lines.{Kind, register, immediate, kindsOf, push, wordOf, Told, empty, named, word, wrong, toldBy}
+use Rattle.lines.specs.Lines.{Kind, register, immediate, kindsOf, push, wordOf, Told, empty, named, wrong, toldBy}
 
 -- "R" and one digit, or two: the second is one that makes it 10 to 15
 abbrev pub isTeen : List ℕ → Bool

@@ -1,8 +1,8 @@
 -- The fifty names, computed once over the list of opcodes: they differ, and the code's table has them. Assumes nothing.
-use mathlib.Core.Path.{_≡_, refl, sym, ap, _∙_, subst}
+use mathlib.Core.Path.{_≡_, refl, sym, ap, _∙_}
 use mathlib.Core.Bool.{Bool, true, false, cond, _&&_}
 use mathlib.Core.List.{List, [], _∷_, map}
-use Prim.Native.Nat.{ℕ, zero, suc, _+_, _-_, _≤_, _<_}
+use Prim.Native.Nat.{ℕ, _-_, _≤_}
 use native.Mathlib.Omega.{arith}
 use lib.Dec.{leb}
 use lib.ListN.{getD}
@@ -13,7 +13,6 @@ use Rattle.labels.specs.Bytes.{keyFrom, keyOf}
 use Rattle.opcode.specs.Opcodes.{opcodeNumber, all, firstWith, opcodeIn}
 use Rattle.opcode.specs.declared.Opcode.{Opcode}
 use Rattle.opcode.specs.declared.Opcode.the-variants as O
-use Rattle.opcode.specs.declared.Found.{Found}
 use Rattle.opcode.specs.declared.Found.the-variants.{Op, Nothing}
 use Rattle.opcode.proofs.Arms.{everywhere}
 use Rattle.opcode.proofs.Variants.{place, all-at}

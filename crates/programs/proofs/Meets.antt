@@ -10,12 +10,11 @@ use lib.IntN.{ℤ}
 use lib.ListN.{length, getD, take, drop}
 use lib.Seq.{length-sets}
 use borrow.Author.Tests.{leb-true, leb-false, ne-eqb, not-true}
-use Rattle.labels.specs.Bytes.{isLetter, headOf, keyOf}
+use Rattle.labels.specs.Bytes.{keyOf}
 use Rattle.labels.specs.Reading.{nameAt}
 use Rattle.labels.specs.Table.{slotsOf, searchIn, notedBy, withLabel}
 use Rattle.labels.specs.declared.table.Slot.{Slot}
 use Rattle.labels.specs.declared.table.Slot.the-variants as Slot
-use Rattle.labels.specs.declared.table.Noted.{Noted}
 use Rattle.labels.specs.declared.table.Noted.the-variants as N
 use Rattle.opcode.specs.Opcodes.{opcodeIn, formOf}
 use Rattle.opcode.specs.declared.Form.{Form}

@@ -3,14 +3,12 @@ use mathlib.Core.Path.{_≡_, refl, sym, ap, _∙_, subst}
 use mathlib.Core.Bool.{Bool, true, false, cond}
 use mathlib.Core.List.{List, [], _∷_, _++_, map, append-assoc, append-nil}
 use mathlib.Core.Option.{Option, none, some}
-use Prim.Native.Nat.{ℕ, zero, suc, _+_, _-_, _*_, _/_, _≤_, _<_}
+use Prim.Native.Nat.{ℕ, _+_, _-_, _*_, _/_, _≤_, _<_}
 use native.Mathlib.Omega.{arith}
 use lib.Dec.{eqb}
-use lib.IntN.{ℤ}
-use lib.ListN.{length, take, drop, replicate, length-append, length-take, take-append-drop, drop-of-length-le}
+use lib.ListN.{length, take, drop, replicate, length-append, take-append-drop, drop-of-length-le}
 use lib.Seq.{drop-drop, drop-append-le, length-sets}
 use borrow.Author.Tests.{ne-eqb, eqb-true}
-use Rattle.opcode.specs.declared.Form.{Form}
 use Rattle.labels.specs.Bytes.{isLetter, isPart, headOf, eqBytes, keyOf}
 use Rattle.labels.specs.Reading.{run, past, skip, nameAt}
 use Rattle.labels.specs.Table.{slotsOf, searchIn, withLabel}
@@ -20,8 +18,8 @@ use Rattle.labels.proofs.Spans.{run-past, every-run, run-append, past-head}
 use Rattle.labels.proofs.Steps.{class-inside}
 use Rattle.labels.proofs.Noting.{bytes-equal}
 use Rattle.labels.proofs.Tables.{Tabled, tabled-none, tabled-held, tabled-free, tabled-full, tabled-new}
-use Rattle.lines.specs.Lines.{Told, empty, named, word, wrong, toldBy}
-use Rattle.lines.specs.Reader.{lineRead, instructionRead}
+use Rattle.lines.specs.Lines.{Told, empty, named, word, wrong}
+use Rattle.lines.specs.Reader.{lineRead}
 use Rattle.programs.specs.Programs.{Teller, Label, labelAt, onTold, noLabels, labelsFrom, indexOf, linesOf}
 use Rattle.programs.specs.Code.{reader, tellersOf, Spans, unlessSeen, secondFrom, Gives}
 use Rattle.programs.specs.declared.spans.Span.{Span}

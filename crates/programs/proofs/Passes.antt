@@ -1,6 +1,6 @@
 -- What the passes find is what the definitions say, where the table gives the labels of the text. Assumes nothing.
 use mathlib.Core.Path.{_≡_, refl, sym, ap, _∙_, fun-ext}
-use mathlib.Core.Bool.{Bool, true, false, cond}
+use mathlib.Core.Bool.{Bool, false, cond}
 use mathlib.Core.List.{List, [], _∷_, _++_, map}
 use mathlib.Core.Option.{Option, none, some}
 use mathlib.Core.Logic.{_⊎_, inl, inr}
@@ -14,7 +14,6 @@ use Rattle.opcode.specs.Opcodes.{opcodeIn}
 use Rattle.opcode.specs.declared.Form.{Form}
 use Rattle.names.specs.Names.{nameKey}
 use Rattle.labels.specs.Reading.{nameAt}
-use Rattle.labels.specs.Table.{indexIn}
 use Rattle.sums.specs.Sums.{distance}
 use Rattle.sums.specs.Code.{lookIn}
 use Rattle.lines.specs.Lines.{Told, empty, named, word, wrong, baseOf}

@@ -1,12 +1,12 @@
 -- Every line says something, and one thing: the language has one meaning. Assumes nothing.
 use mathlib.Core.Path.{_≡_, refl, sym, ap, _∙_, subst, fun-ext}
 use mathlib.Core.List.{List, [], _∷_, map}
-use mathlib.Core.Option.{Option, none, some}
+use mathlib.Core.Option.{Option}
 use Prim.Native.Nat.{ℕ}
 use native.Mathlib.Omega.{arith}
 use lib.IntN.{ℤ}
 use Rattle.opcode.specs.declared.Form.{Form}
-use Rattle.lines.specs.Lines.{Line, lineText, lineTold, Told, empty, named, word, wrong}
+use Rattle.lines.specs.Lines.{Told, empty, named, word, wrong}
 use Rattle.lines.specs.Reader.{lineRead}
 use Rattle.lines.proofs.Complete.{line-complete}
 use Rattle.lines.proofs.Sound.{line-sound}

@@ -1,7 +1,7 @@
 -- The pass that writes the words, line by line. Assumes nothing.
-use mathlib.Core.Path.{_≡_, refl, sym, ap, _∙_}
+use mathlib.Core.Path.{_≡_, sym, ap, _∙_}
 use mathlib.Core.List.{List, [], _∷_, _++_}
-use Prim.Native.Nat.{ℕ, zero, suc, _+_, _≤_}
+use Prim.Native.Nat.{ℕ, suc, _+_, _≤_}
 use native.Mathlib.Nat.{add-zero}
 use native.Mathlib.Omega.{arith}
 use mathlib.Core.Logic.{inl, inr}
@@ -10,7 +10,7 @@ use types.Run.{OneOf}
 use lib.ListN.{length, set, drop, drop-of-length-le}
 use lib.Seq.{sets}
 use Rattle.memory.specs.Bytes.{bytes}
-use Rattle.lines.specs.Lines.{Told, empty, named, word, wrong}
+use Rattle.lines.specs.Lines.{Told, empty, word, wrong}
 use Rattle.lines.specs.Reader.{lineRead}
 use Rattle.lines.specs.Code.{labelsIn, saidOf}
 use Rattle.lines.specs.declared.Said.{Said}

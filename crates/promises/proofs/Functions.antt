@@ -50,7 +50,7 @@ use Rattle.effect.specs.declared.immediate.Turn.{Turn}
 use Rattle.promises.proofs.Laws.{one, two, _&_}
 use Rattle.promises.proofs.Asked.{asked}
 use Rattle.promises.proofs.Tables.{one-deed, one-turn, one-shift}
-use Rattle.promises.proofs.Texts.{one-found, one-read, one-said, one-left}
+use Rattle.promises.proofs.Texts.{one-read, one-said, one-left}
 use Rattle.promises.proofs.Regrouped.{advanceOf, executedOf, oneStepOf, ranOf, goneOf}
 
 -- ---- encoding
@@ -311,6 +311,9 @@ words·decoder·decode κs a x y = one (λ r. r & x .1)
 
 pub words·encoder·encode : Determined words.encoder.encode.ended words.encoder.encode.Reads.Learnt
 words·encoder·encode κs a x y = one (λ r. r & x .1)
+
+pub words·encoder·encode-parts : Determined words.encoder.encode_parts.ended words.encoder.encode_parts.Reads.Learnt
+words·encoder·encode-parts κs a x y = one (λ r. r & x .1)
 
 -- ---- state
 pub state·formed·well-formed : Determined state.formed.well_formed.ended state.formed.well_formed.Reads.Learnt
@@ -697,11 +700,11 @@ labels·text·letter κs a x y = one (λ r. r & x .1)
 pub labels·text·skip : Determined labels.text.skip.ended labels.text.skip.Reads.Learnt
 labels·text·skip κs a x y = one (λ r. r & x .1)
 
-pub labels·text·after-name : Determined labels.text.after_name.ended labels.text.after_name.Reads.Learnt
-labels·text·after-name κs a x y = one (λ r. r & x .1)
+pub labels·table·name-at : Determined labels.table.name_at.ended labels.table.name_at.Reads.Learnt
+labels·table·name-at κs a x y = one (λ r. r & x .1)
 
 pub labels·table·find : Determined labels.table.find.ended labels.table.find.Reads.Learnt
-labels·table·find κs a x y = one-found (λ r. r & x .1) (x .0) (y .0)
+labels·table·find κs a x y = one (λ r. r & x .1)
 
 pub labels·table·note : Determined labels.table.note.ended labels.table.note.Reads.Learnt
 labels·table·note κs a x y = two (λ r m. r & tt & m & x .1 .1 .1)

@@ -1,17 +1,13 @@
 -- What a promise says of an answer about a text, taken back to the answer. f: all that a call leaves, read off it.
-use Prim.Native.Nat.{ℕ, suc, _+_, _-_, _^_, _<_, _≤_}
+use Prim.Native.Nat.{ℕ, suc, _+_, _-_, _^_}
 use mathlib.Core.Path.{_≡_, refl, sym, ap, ap₂, _∙_}
 use mathlib.Core.Bool.{Bool, true, false}
 use mathlib.Core.List.{List}
-use mathlib.Core.Option.{Option, none, some}
 use native.Mathlib.Omega.{arith}
 use lib.Dec.{ltb}
 use lib.IntN.{ℤ, pos, negsuc}
-use lib.ListN.{length, drop, length-drop}
+use lib.ListN.{length, length-drop}
 use borrow.Author.Tests.{ltb-true, ltb-false}
-use Rattle.labels.specs.Table.{indexOf}
-use Rattle.labels.specs.declared.table.Found.{Found}
-use Rattle.labels.specs.declared.table.Found.the-variants.{At, Nothing}
 use Rattle.sums.specs.Reader.{Got, got, bad}
 use Rattle.sums.specs.Code.{of64, seen, Past}
 use Rattle.sums.specs.declared.Read.{Read}
@@ -23,18 +19,6 @@ use Rattle.lines.specs.declared.Said.{Said}
 use Rattle.lines.specs.declared.Said.the-variants as Said
 use Rattle.programs.specs.Promise.{Left, Assembled}
 use Rattle.programs.proofs.Top.{one-answer}
-
--- ---- a label that is found
-abbrev foundIn : Option ℕ → Found
-foundIn none = Nothing
-foundIn (some i) = At i
-
-found-back : (r : Found) → foundIn (indexOf r) ≡ r
-found-back (At i) = refl
-found-back Nothing = refl
-
-pub one-found : {B : Type 0} {v : Option ℕ} (f : Found → B) (r s : Found) → v ≡ indexOf r → v ≡ indexOf s → f r ≡ f s
-one-found f r s p q = ap f (sym (found-back r) ∙ ap foundIn (sym p ∙ q) ∙ found-back s)
 
 -- ---- a sum: its value, and how much of the text was read
 abbrev raised : ℤ → ℕ

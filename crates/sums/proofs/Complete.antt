@@ -1,20 +1,20 @@
 -- Whatever spells a sum is read as its value: the reader takes the whole language, and each text has one value. Assumes nothing.
-use mathlib.Core.Path.{_≡_, refl, sym, ap, _∙_, subst}
-use mathlib.Core.Bool.{Bool, true, false, cond, _&&_, _||_}
+use mathlib.Core.Path.{_≡_, refl, ap, _∙_, subst}
+use mathlib.Core.Bool.{true, false}
 use mathlib.Core.List.{List, [], _∷_, _++_, append-assoc}
 use mathlib.Core.Option.{Option, none, some}
-use Prim.Native.Nat.{ℕ, zero, suc, _+_, _≤_, _<_}
+use Prim.Native.Nat.{ℕ, zero, suc, _+_, _<_}
 use native.Mathlib.Omega.{arith}
 use lib.IntN.{ℤ}
-use lib.Dec.{eqb, leb}
+use lib.Dec.{eqb}
 use lib.ListN.{length, length-append}
-use borrow.Author.Tests.{leb-true, le-leb, lt-leb, ne-eqb}
+use borrow.Author.Tests.{ne-eqb}
 use Rattle.labels.specs.Bytes.{isSpace, isDigit, isLetter, isPart, every, isName, isNumber, decimal, spaces, headOf}
 use Rattle.sums.specs.Sums.{Sign, unsigned, plus, minus, Op, add, sub, Term, Rest, number, label, group, done, then, signText, opText, termText, restText, Sum, sumText, checked, known, signed, join, both, termValue, restValue, sumValue}
 use Rattle.labels.specs.Reading.{tailOf, run, past, skip}
-use Rattle.sums.specs.Reader.{Got, got, bad, given, onto, digitsRead, numberRead, nameRead, shut, termBy, moreBy, sumBy, sumRead, innerRead, termRead}
+use Rattle.sums.specs.Reader.{Got, given, onto, digitsRead, numberRead, nameRead, shut, termBy, moreBy, sumBy, sumRead, innerRead, termRead}
 use Rattle.labels.proofs.Spans.{both-true, past-stop, past-append, run-append, skip-spaces}
-use Rattle.labels.proofs.Classes.{digit-low, digit-high, digit-no-letter, letter-low, or-cases, or-true, or-false}
+use Rattle.labels.proofs.Classes.{digit-low, digit-high, digit-no-letter, letter-low, or-true, or-false}
 
 -- ---- a term
 module _ (look : List ℕ → Option ℤ) (d : ℕ) where

@@ -1,18 +1,16 @@
 -- Digits that are counted one by one. Assumes nothing.
-use mathlib.Core.Path.{_≡_, refl, sym, ap, _∙_, subst}
+use mathlib.Core.Path.{_≡_, refl, sym, ap, _∙_}
 use mathlib.Core.Bool.{Bool, true, false, cond}
 use mathlib.Core.List.{List, [], _∷_}
-use mathlib.Core.Option.{Option, none, some}
-use Prim.Native.Nat.{ℕ, zero, suc, _+_, _-_, _*_, _^_, _≤_, _<_}
+use mathlib.Core.Option.{Option, none}
+use Prim.Native.Nat.{ℕ, _+_, _-_, _*_, _^_, _≤_, _<_}
 use native.Mathlib.Omega.{arith}
-use lib.ListN.{length, drop}
+use lib.ListN.{drop}
 use Rattle.labels.specs.Bytes.{isDigit, decimal, decimalFrom, headOf}
-use Rattle.sums.specs.Sums.{checked, signed, plus, minus, dif}
-use Rattle.labels.specs.Reading.{tailOf, run, past}
-use Rattle.sums.specs.Reader.{Got, got, bad, given, digitsRead, numberRead}
-use Rattle.sums.specs.Code.{signOf, of64, valueOf, seen, Past, readOf}
-use Rattle.sums.specs.declared.Read.{Read}
-use Rattle.sums.specs.declared.Read.the-variants.{Value, Bad}
+use Rattle.sums.specs.Sums.{checked, signed}
+use Rattle.labels.specs.Reading.{run, past}
+use Rattle.sums.specs.Reader.{bad, given, digitsRead}
+use Rattle.sums.specs.Code.{signOf, valueOf, seen, Past, readOf}
 use Rattle.sums.specs.declared.numbers.Both.{Both}
 use Rattle.sums.specs.declared.numbers.Both.the-variants.{Of, Over}
 use Rattle.labels.proofs.Spans.{tail-drop, past-stop, run-stop, run-on}

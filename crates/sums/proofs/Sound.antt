@@ -1,18 +1,18 @@
 -- Whatever is read spells a sum of that value: the reader takes nothing but the language. Assumes nothing.
-use mathlib.Core.Path.{_≡_, refl, sym, ap, _∙_, subst}
-use mathlib.Core.Bool.{Bool, true, false, cond, _&&_, _||_}
+use mathlib.Core.Path.{_≡_, refl, sym, ap, _∙_}
+use mathlib.Core.Bool.{Bool, true, false, cond}
 use mathlib.Core.List.{List, [], _∷_, _++_, append-assoc}
 use mathlib.Core.Option.{Option, none, some}
-use Prim.Native.Nat.{ℕ, zero, suc, _+_, _≤_, _<_}
+use Prim.Native.Nat.{ℕ, zero, suc, _+_}
 use native.Mathlib.Omega.{arith}
 use lib.IntN.{ℤ}
-use lib.Dec.{eqb, leb}
+use lib.Dec.{eqb}
 use lib.ListN.{length}
 use borrow.Author.Tests.{eqb-true}
 use Rattle.labels.specs.Bytes.{isSpace, isDigit, isLetter, isPart, every, isName, isNumber, decimal, spaces, headOf}
 use Rattle.sums.specs.Sums.{Sign, unsigned, plus, minus, Op, add, sub, Term, Rest, number, label, group, done, then, signText, opText, termText, restText, Sum, sumText, checked, known, signed, join, both, termValue, restValue, sumValue}
 use Rattle.labels.specs.Reading.{tailOf, run, past, skip}
-use Rattle.sums.specs.Reader.{Got, got, bad, given, onto, digitsRead, numberRead, nameRead, shut, termBy, moreBy, sumBy, sumRead, innerRead, termRead}
+use Rattle.sums.specs.Reader.{Got, got, bad, given, onto, digitsRead, numberRead, nameRead, shut, termBy, moreBy, sumRead, innerRead, termRead}
 use Rattle.labels.proofs.Spans.{both-true, run-past, run-on, every-run, are-spaces}
 use Rattle.sums.proofs.Complete.{sum-is, goes}
 

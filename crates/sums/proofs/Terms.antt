@@ -1,7 +1,7 @@
 -- What the reader's definitions say of a text from a place on, case by case. Assumes nothing.
-use mathlib.Core.Path.{_≡_, refl, sym, ap, _∙_, subst}
-use mathlib.Core.Bool.{Bool, true, false, cond, _||_}
-use mathlib.Core.List.{List, [], _∷_}
+use mathlib.Core.Path.{_≡_, refl, sym, ap, _∙_}
+use mathlib.Core.Bool.{Bool, true, false, cond}
+use mathlib.Core.List.{List}
 use mathlib.Core.Option.{Option, none, some}
 use Prim.Native.Nat.{ℕ, zero, suc, _+_, _-_, _*_, _≤_, _<_}
 use native.Mathlib.Numerals.{sub-one}
@@ -10,17 +10,15 @@ use lib.IntN.{ℤ}
 use lib.Dec.{eqb}
 use lib.ListN.{length, drop, length-drop}
 use borrow.Author.Tests.{eq-eqb, ne-eqb}
-use Rattle.labels.specs.Bytes.{isSpace, isLetter, isDigit, isPart, headOf}
-use Rattle.sums.specs.Sums.{Op, add, sub, plus, minus, checked, known, join, dif}
+use Rattle.labels.specs.Bytes.{isSpace, isLetter, isPart, headOf}
+use Rattle.sums.specs.Sums.{add, sub, plus, minus, checked, known, join, dif}
 use Rattle.labels.specs.Reading.{tailOf, run, past, skip, Passed}
 use Rattle.sums.specs.Reader.{Got, got, bad, given, onto, digitsRead, numberRead, nameRead, shut, termBy, moreBy, sumRead, innerRead, termRead}
-use Rattle.sums.specs.Code.{of64, valueOf, opOf, signAt, lookIn, seen, Past}
+use Rattle.sums.specs.Code.{of64, opOf, signAt, lookIn, seen, Past}
 use Rattle.labels.specs.Table.{indexIn, foundBy}
 use Rattle.labels.specs.declared.table.Found.the-variants.{At, Nothing}
 use Rattle.sums.specs.declared.Read.{Read}
 use Rattle.sums.specs.declared.Read.the-variants.{Value, Bad}
-use Rattle.sums.specs.declared.numbers.Both.{Both}
-use Rattle.sums.specs.declared.numbers.Both.the-variants.{Of, Over}
 use Rattle.labels.proofs.Spans.{inside, tail-drop, past-head}
 use Rattle.labels.proofs.Steps.{class-inside}
 use Rattle.sums.proofs.Complete.{sum-is, goes}

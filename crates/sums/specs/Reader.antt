@@ -8,7 +8,7 @@ use lib.IntN.{ℤ}
 use lib.ListN.{length}
 use Rattle.labels.specs.Bytes.{isDigit, isLetter, isPart, decimal, headOf}
 use Rattle.labels.specs.Reading.{tailOf, run, past, skip}
-use Rattle.sums.specs.Sums.{Sign, unsigned, plus, minus, Op, add, sub, checked, known, signed, join}
+use Rattle.sums.specs.Sums.{Sign, unsigned, plus, minus, add, sub, checked, known, signed, join}
 
 pub data Got : Type 0 where
   got : ℤ → List ℕ → Got

@@ -1,13 +1,13 @@
 -- "Printing any decodable program and assembling the print gives the same words." Assumes nothing.
-use mathlib.Core.Path.{_≡_, refl, sym, ap, _∙_, subst, fun-ext}
-use mathlib.Core.Logic.{_⊎_, inl, inr, ⊎-elim}
+use mathlib.Core.Path.{_≡_, refl, sym, ap, _∙_, fun-ext}
+use mathlib.Core.Logic.{_⊎_, ⊎-elim}
 use mathlib.Core.Bool.{Bool, true, false, cond, _&&_, not}
-use mathlib.Core.List.{List, [], _∷_, _++_, append-assoc, map}
+use mathlib.Core.List.{List, [], _∷_, _++_, map}
 use mathlib.Core.Option.{Option, none, some}
-use Prim.Native.Nat.{ℕ, zero, suc, _+_, _-_, _*_, _^_, _≤_, _<_}
+use Prim.Native.Nat.{ℕ, suc, _+_, _-_, _^_, _≤_, _<_}
 use native.Mathlib.Omega.{arith}
 use native.Mathlib.Nat.{pow-le-pow-right}
-use lib.Dec.{ltb, eqb, leb}
+use lib.Dec.{ltb, eqb}
 use lib.IntN.{ℤ, pos, negsuc, negℤ}
 use mir.Syntax.{w64}
 use mir.Val.{ofZ}
@@ -32,19 +32,18 @@ use Rattle.words.specs.declared.Encoded.{Encoded}
 use Rattle.words.specs.declared.Encoded.the-variants as E
 use Rattle.words.specs.declared.Decoded.{Decoded}
 use Rattle.words.specs.declared.Decoded.the-variants as D
-use Rattle.refusal.specs.declared.Refusal.{Refusal}
 use Rattle.words.proofs.OneWord.{document}
 use Rattle.names.specs.Names.{nameOf, registerText}
-use Rattle.labels.specs.Bytes.{isDigit, every, isNumber, decimal, spaces, headOf}
-use Rattle.sums.specs.Sums.{Sum, Term, Rest, done, number, unsigned, minus, sumText, sumValue, termText, restText, termValue, restValue, checked, signed, fits64}
+use Rattle.labels.specs.Bytes.{isDigit, every}
+use Rattle.sums.specs.Sums.{Sum, Term, done, number, unsigned, minus, sumText, sumValue, termText, restText, termValue, restValue, checked, fits64}
 use Rattle.labels.proofs.Spans.{both-true}
-use Rattle.labels.proofs.Classes.{digit-low, digit-high}
-use Rattle.lines.specs.Lines.{Kind, register, immediate, kindsOf, Operand, reg, sum, Operands, without, last, more, Line, instruction, operandText, operandsText, argumentsText, lineText, operandValue, push as pushValue, operandsValues, bits, partsBy, wordIn, wordOf, Told, word, toldBy, lineTold}
+use Rattle.labels.proofs.Classes.{digit-low}
+use Rattle.lines.specs.Lines.{kindsOf, reg, sum, Operands, without, last, more, Line, instruction, operandsText, argumentsText, lineText, push as pushValue, operandsValues, bits, partsBy, wordIn, wordOf, word, toldBy, lineTold}
 use Rattle.lines.specs.Reader.{lineRead}
 use Rattle.lines.proofs.Complete.{line-complete, append-none}
-use Rattle.programs.specs.Programs.{push, linesOf, Teller, Tells, labelsFrom, Outcome, made, andWord, assembleFrom, assembleOf}
-use Rattle.printing.specs.Print.{digitsBy, numberText, operandTexts, withCommas, spelled, printLine, Printed, text, undecodable, andLine, printedBy, printOf}
-use Rattle.text.proofs.Digits.{Written, written}
+use Rattle.programs.specs.Programs.{push, linesOf, Teller, made, andWord, assembleFrom, assembleOf}
+use Rattle.printing.specs.Print.{digitsBy, numberText, operandTexts, withCommas, spelled, printLine, Printed, text, undecodable, printedBy, printOf}
+use Rattle.text.proofs.Digits.{written}
 use Rattle.programs.specs.Code.{reader}
 use Rattle.programs.proofs.Readings.{told}
 use Rattle.text.specs.Statements.{RoundTrip}

@@ -1,4 +1,4 @@
-use mathlib.Core.Path.{_≡_, sym, ap, _∙_}
+use mathlib.Core.Path.{sym, ap, _∙_}
 use lib.ListN.{drop}
 use Rattle.opcode.specs.declared.Found.{Found}
 use Rattle.lines.specs.Lines.{named}
@@ -8,12 +8,6 @@ use Rattle.lines.proofs.Starts.{began, word-said}
 use borrow.Author.Needs.{needs}
 use Rattle.lines.proofs.line.Statement.{statement}
 use Rattle.lines.proofs.line.Tie as tie
-use Rattle.lines.proofs.line.Reads as reads
-use Rattle.lines.proofs.line.Lts as lts
-use Rattle.lines.proofs.instructions.instruction.Reads as instruction-reads
-use Rattle.lines.proofs.start_of.Reads as start-of-reads
-use Rattle.lines.proofs.word_or_bad.Reads as word-or-bad-reads
-use Rattle.names.proofs.named.Reads as named-reads
 
 -- src/lib.rt:68:11
 start-of-requires : tie.Need-start-of-requires

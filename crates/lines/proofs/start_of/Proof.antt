@@ -1,4 +1,4 @@
-use mathlib.Core.Path.{_≡_, sym, ap, _∙_}
+use mathlib.Core.Path.{sym, ap, _∙_}
 use native.Mathlib.Omega.{arith}
 use borrow.Author.Tests.{not-true, not-false}
 use Rattle.labels.specs.Bytes.{isLetter}
@@ -8,12 +8,6 @@ use Rattle.lines.proofs.Starts.{start-blank, start-other, start-word, s
 use borrow.Author.Needs.{needs}
 use Rattle.lines.proofs.start_of.Statement.{statement}
 use Rattle.lines.proofs.start_of.Tie as tie
-use Rattle.lines.proofs.start_of.Reads as reads
-use Rattle.lines.proofs.start_of.Lts as lts
-use Rattle.labels.proofs.table.name_at.Reads as name-at-reads
-use Rattle.labels.proofs.text.byte.Reads as byte-reads
-use Rattle.labels.proofs.text.letter.Reads as letter-reads
-use Rattle.labels.proofs.text.skip.Reads as skip-reads
 
 -- src/lib.rt:37:9
 skip-requires : tie.Need-skip-requires

@@ -2,8 +2,6 @@ use borrow.Author.Tests.{lt-ltb, le-ltb}
 use borrow.Author.Needs.{needs}
 use Rattle.lines.proofs.word_or_bad.Statement.{statement}
 use Rattle.lines.proofs.word_or_bad.Tie as tie
-use Rattle.lines.proofs.word_or_bad.Reads as reads
-use Rattle.lines.proofs.word_or_bad.Lts as lts
 
 -- src/lib.rt:79:27
 cast-t3 : tie.Need-cast-t3

@@ -6,14 +6,10 @@ use lib.ListN.{getD}
 use native.Mathlib.Omega.{arith}
 use Prim.Native.Nat.{ℕ, _-_}
 use mathlib.Core.List.{map}
-use mathlib.Core.Path.{_≡_, refl, sym, _∙_, ap}
+use mathlib.Core.Path.{_∙_, ap}
 use borrow.Author.Needs.{needs}
 use Rattle.names.proofs.name_of.Statement.{statement}
 use Rattle.names.proofs.name_of.Tie as tie
-use Rattle.names.proofs.name_of.Reads as reads
-use Rattle.names.proofs.name_of.Lts as lts
-use Rattle.names.proofs.place.Reads as place-reads
-use Rattle.opcode.proofs.opcode_number.Reads as opcode-number-reads
 
 -- src/lib.rt:34:17
 opcode-number-requires : tie.Need-opcode-number-requires

@@ -3,8 +3,6 @@ use Rattle.opcode.specs.Opcodes.{all, firstWith}
 use Rattle.labels.specs.Bytes.{keyFrom}
 use Rattle.names.proofs.named.Statement.{statement}
 use Rattle.names.proofs.named.Tie as tie
-use Rattle.names.proofs.named.Reads as reads
-use Rattle.names.proofs.named.Lts as lts
 
 -- src/lib.rt:76:1
 returns : tie.Need-returns

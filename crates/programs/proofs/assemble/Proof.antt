@@ -1,14 +1,10 @@
 use Rattle.programs.proofs.Ends.{left-cleared}
 use lib.ListN.{length, replicate, length-replicate}
 use Prim.Native.Nat.{ℕ}
-use mathlib.Core.Path.{_≡_, sym, ap, _∙_}
+use mathlib.Core.Path.{sym, ap, _∙_}
 use borrow.Author.Needs.{needs}
 use Rattle.programs.proofs.assemble.Statement.{statement}
 use Rattle.programs.proofs.assemble.Tie as tie
-use Rattle.programs.proofs.assemble.Reads as reads
-use Rattle.programs.proofs.assemble.Lts as lts
-use Rattle.programs.proofs.assemble_with.Reads as assemble-with-reads
-use Rattle.programs.proofs.writing.clear.Reads as clear-reads
 
 -- src/lib.rt:51:5
 clear-requires : tie.Need-clear-requires

@@ -1,24 +1,14 @@
 use Rattle.programs.proofs.Ends.{left-short, left-bad, left-small, words-fit, left-done}
-use Rattle.programs.specs.Code.{NotedAll, Gives}
 use Rattle.programs.specs.Promise.{left}
-use Rattle.told.specs.Told.{doneTold, refusedTold}
+use Rattle.told.specs.Told.{doneTold}
 use Rattle.told.specs.declared.Told.{Told}
-use lib.ListN.{length}
 use native.Mathlib.Omega.{arith}
 use Prim.Native.Nat.{ℕ, _*_}
 use mathlib.Core.List.{List}
-use mathlib.Core.Path.{_≡_, sym, ap, _∙_, subst}
+use mathlib.Core.Path.{sym, ap, _∙_}
 use borrow.Author.Needs.{needs}
 use Rattle.programs.proofs.assemble_with.Statement.{statement}
 use Rattle.programs.proofs.assemble_with.Tie as tie
-use Rattle.programs.proofs.assemble_with.Reads as reads
-use Rattle.programs.proofs.assemble_with.Lts as lts
-use Rattle.programs.proofs.checking.check.Reads as check-reads
-use Rattle.programs.proofs.noting.note_labels.Reads as note-labels-reads
-use Rattle.programs.proofs.wide.Reads as wide-reads
-use Rattle.programs.proofs.writing.write_words.Reads as write-words-reads
-use Rattle.told.proofs.done.Reads as done-reads
-use Rattle.told.proofs.refused.Reads as refused-reads
 
 -- src/lib.rt:32:31
 note-labels-requires : tie.Need-note-labels-requires

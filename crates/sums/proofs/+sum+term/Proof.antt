@@ -1,13 +1,12 @@
 use Rattle.labels.proofs.Steps.{passed}
 use mathlib.Core.Path.{_≡_, sym, _∙_, ap, subst}
-use mathlib.Core.List.{List}
 use Prim.Native.Nat.{ℕ, suc, _+_, _-_, _≤_, _<_}
 use native.Mathlib.Omega.{arith}
 use lib.ListN.{length, drop}
 use borrow.Author.Needs.{needs}
 use Rattle.labels.specs.Bytes.{isLetter, isSpace}
-use Rattle.sums.specs.Reader.{sumRead, termRead, moreBy, Got, onto, shut}
-use Rattle.sums.specs.Code.{Past, lookIn, of64, valueOf, seen, signAt}
+use Rattle.sums.specs.Reader.{sumRead, termRead, moreBy}
+use Rattle.sums.specs.Code.{Past, lookIn, of64, valueOf, seen}
 use Rattle.sums.proofs.Terms.{sooner, at-byte, term-name, term-number, term-flat, term-deep, more-stop, more-sign, turn-bad, turn-over, turn-on, again, sum-bad, sum-first}
 use borrow.Fn.Kinds.{In}
 use borrow.Fn.PlainCycle.{Measures, is, falls, and}

@@ -1,14 +1,10 @@
 use Rattle.sums.proofs.Terms.{at-byte, shut-yes, shut-no}
 use Rattle.sums.specs.Code.{Past}
 use native.Mathlib.Omega.{arith}
-use Prim.Native.Nat.{_+_}
 use mathlib.Core.Path.{sym, _∙_, subst}
 use borrow.Author.Needs.{needs}
 use Rattle.sums.proofs.closed.Statement.{statement}
 use Rattle.sums.proofs.closed.Tie as tie
-use Rattle.sums.proofs.closed.Reads as reads
-use Rattle.sums.proofs.closed.Lts as lts
-use Rattle.labels.proofs.text.byte.Reads as byte-reads
 
 -- src/lib.rt:63:21
 enum-known-inner : tie.Need-enum-known-inner

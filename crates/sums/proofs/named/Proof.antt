@@ -7,10 +7,6 @@ use Rattle.labels.specs.Bytes.{isPart}
 use borrow.Author.Needs.{needs}
 use Rattle.sums.proofs.named.Statement.{statement}
 use Rattle.sums.proofs.named.Tie as tie
-use Rattle.sums.proofs.named.Reads as reads
-use Rattle.sums.proofs.named.Lts as lts
-use Rattle.labels.proofs.table.find.Reads as find-reads
-use Rattle.sums.proofs.numbers.distance.Reads as distance-reads
 
 -- src/lib.rt:32:27
 find-requires : tie.Need-find-requires

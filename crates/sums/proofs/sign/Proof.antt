@@ -3,9 +3,6 @@ use mathlib.Core.Path.{sym, _∙_}
 use borrow.Author.Needs.{needs}
 use Rattle.sums.proofs.sign.Statement.{statement}
 use Rattle.sums.proofs.sign.Tie as tie
-use Rattle.sums.proofs.sign.Reads as reads
-use Rattle.sums.proofs.sign.Lts as lts
-use Rattle.labels.proofs.text.byte.Reads as byte-reads
 
 -- src/lib.rt:48:9
 byte-requires : tie.Need-byte-requires

@@ -1,4 +1,4 @@
-use mathlib.Core.Path.{_≡_, sym, ap, _∙_}
+use mathlib.Core.Path.{sym, ap, _∙_}
 use Prim.Native.Nat.{_+_}
 use lib.ListN.{length}
 use native.Mathlib.Omega.{arith}
@@ -11,10 +11,6 @@ use Rattle.labels.proofs.Searches.{held-below}
 use borrow.Author.Needs.{needs}
 use Rattle.labels.proofs.table.find.Statement.{statement}
 use Rattle.labels.proofs.table.find.Tie as tie
-use Rattle.labels.proofs.table.find.Reads as reads
-use Rattle.labels.proofs.table.find.Lts as lts
-use Rattle.labels.proofs.table.name_at.Reads as name-at-reads
-use Rattle.labels.proofs.table.search.Reads as search-reads
 
 -- src/table.rt:146:9
 name-at-requires : tie.Need-name-at-requires

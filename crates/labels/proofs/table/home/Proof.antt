@@ -3,9 +3,6 @@ use Rattle.labels.proofs.Searches.{home-fits, home-scaled, home-whole}
 use borrow.Author.Needs.{needs}
 use Rattle.labels.proofs.table.home.Statement.{statement}
 use Rattle.labels.proofs.table.home.Tie as tie
-use Rattle.labels.proofs.table.home.Reads as reads
-use Rattle.labels.proofs.table.home.Lts as lts
-use Rattle.labels.proofs.table.place.Reads as place-reads
 
 -- src/table.rt:100:15
 mul-sum : tie.Need-mul-sum

@@ -1,4 +1,4 @@
-use mathlib.Core.Path.{_≡_, sym, _∙_, ap}
+use mathlib.Core.Path.{sym, _∙_, ap}
 use mathlib.Core.Bool.{Bool, _&&_}
 use Prim.Native.Nat.{ℕ}
 use borrow.Author.Tests.{eq-eqb, ne-eqb}
@@ -8,10 +8,6 @@ use Rattle.labels.specs.declared.table.Name.{Name}
 use borrow.Author.Needs.{needs}
 use Rattle.labels.proofs.table.is_label.Statement.{statement}
 use Rattle.labels.proofs.table.is_label.Tie as tie
-use Rattle.labels.proofs.table.is_label.Reads as reads
-use Rattle.labels.proofs.table.is_label.Lts as lts
-use Rattle.labels.proofs.table.place.Reads as place-reads
-use Rattle.labels.proofs.table.same.Reads as same-reads
 
 -- src/table.rt:91:9
 returns : tie.Need-returns

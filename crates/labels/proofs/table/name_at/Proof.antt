@@ -4,15 +4,10 @@ use Rattle.labels.specs.Bytes.{isPart}
 use borrow.Author.Tests.{not-true, not-false}
 use native.Mathlib.Omega.{arith}
 use lib.ListN.{length}
-use Prim.Native.Nat.{ℕ, _-_}
-use mathlib.Core.Path.{_≡_, sym, _∙_, refl, ap}
+use Prim.Native.Nat.{_-_}
+use mathlib.Core.Path.{sym, _∙_, refl, ap}
 use Rattle.labels.proofs.table.name_at.Statement.{statement}
 use Rattle.labels.proofs.table.name_at.Tie as tie
-use Rattle.labels.proofs.table.name_at.Reads as reads
-use Rattle.labels.proofs.table.name_at.Lts as lts
-use Rattle.labels.proofs.table.wide.Reads as wide-reads
-use Rattle.labels.proofs.text.byte.Reads as byte-reads
-use Rattle.labels.proofs.text.part.Reads as part-reads
 
 abbrev Inv-loop : tie.InvT-loop
 Inv-loop s at v₀ n₀ v n = NameRead s at v n

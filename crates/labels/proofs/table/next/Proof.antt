@@ -1,13 +1,11 @@
 use borrow.Author.Tests.{eq-eqb, ne-eqb}
 use native.Mathlib.Omega.{arith}
-use Prim.Native.Nat.{ℕ, _+_}
+use Prim.Native.Nat.{_+_}
 use mathlib.Core.Bool.{Bool, cond}
-use mathlib.Core.Path.{_≡_, refl, sym, ap, _∙_}
+use mathlib.Core.Path.{sym, ap}
 use borrow.Author.Needs.{needs}
 use Rattle.labels.proofs.table.next.Statement.{statement}
 use Rattle.labels.proofs.table.next.Tie as tie
-use Rattle.labels.proofs.table.next.Reads as reads
-use Rattle.labels.proofs.table.next.Lts as lts
 
 -- src/table.rt:101:8
 add-if1 : tie.Need-add-if1

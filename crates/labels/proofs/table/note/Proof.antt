@@ -1,23 +1,18 @@
 use Rattle.labels.specs.Bytes.{keyOf}
 use Rattle.labels.specs.declared.table.Name.{Name}
-use Rattle.labels.specs.declared.table.Noted.{Noted}
 use lib.Seq.{sets}
 use Prim.Native.Nat.{ℕ, _*_}
-use mathlib.Core.List.{List, [], _∷_}
+use mathlib.Core.List.{[], _∷_}
 use Rattle.labels.proofs.Searches.{free-below, three-sets}
 use Rattle.labels.specs.declared.table.Slot.{Slot}
 use Rattle.labels.specs.Table.{notedBy, withLabel}
 use Rattle.labels.specs.Reading.{nameAt}
-use lib.ListN.{length, length-set}
+use lib.ListN.{length-set}
 use native.Mathlib.Omega.{arith}
-use mathlib.Core.Path.{_≡_, sym, ap, _∙_}
+use mathlib.Core.Path.{sym, ap, _∙_}
 use borrow.Author.Needs.{needs}
 use Rattle.labels.proofs.table.note.Statement.{statement}
 use Rattle.labels.proofs.table.note.Tie as tie
-use Rattle.labels.proofs.table.note.Reads as reads
-use Rattle.labels.proofs.table.note.Lts as lts
-use Rattle.labels.proofs.table.name_at.Reads as name-at-reads
-use Rattle.labels.proofs.table.search.Reads as search-reads
 
 -- src/table.rt:151:9
 name-at-requires : tie.Need-name-at-requires

@@ -1,17 +1,12 @@
 use Rattle.labels.proofs.Steps.{Compared, compared-all, second-inside, compared-not, first-inside, compared-on}
 use Rattle.labels.proofs.Spans.{head-drop}
-use Rattle.labels.specs.Bytes.{isPart}
 use native.Mathlib.Omega.{arith}
 use lib.ListN.{length}
-use Prim.Native.Nat.{ℕ, _-_}
+use Prim.Native.Nat.{_-_}
 use mathlib.Core.Bool.{not}
-use mathlib.Core.Path.{_≡_, sym, _∙_, refl, ap}
+use mathlib.Core.Path.{sym, _∙_, refl, ap}
 use Rattle.labels.proofs.table.same.Statement.{statement}
 use Rattle.labels.proofs.table.same.Tie as tie
-use Rattle.labels.proofs.table.same.Reads as reads
-use Rattle.labels.proofs.table.same.Lts as lts
-use Rattle.labels.proofs.text.byte.Reads as byte-reads
-use Rattle.labels.proofs.text.part.Reads as part-reads
 
 abbrev Inv-loop : tie.InvT-loop
 Inv-loop text p s at after i₀ j₀ i j = Compared text p s at after i j

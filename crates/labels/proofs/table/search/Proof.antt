@@ -2,20 +2,13 @@ use Rattle.labels.proofs.Searches.{search-free, search-held, search-on}
 use Rattle.labels.specs.declared.table.Name.{Name}
 use Rattle.labels.specs.Table.{slotsOf, homeOf, searchFrom, searchIn}
 use Rattle.labels.specs.Reading.{nameAt}
-use Rattle.labels.specs.Bytes.{eqBytes, keyOf}
-use lib.ListN.{length, getD}
-use lib.Dec.{eqb}
+use Rattle.labels.specs.Bytes.{keyOf}
+use lib.ListN.{length}
 use native.Mathlib.Omega.{arith}
 use Prim.Native.Nat.{ℕ, _-_, _/_, _<_}
-use mathlib.Core.Bool.{true, false}
 use mathlib.Core.Path.{_≡_, refl, sym, ap, _∙_}
 use Rattle.labels.proofs.table.search.Statement.{statement}
 use Rattle.labels.proofs.table.search.Tie as tie
-use Rattle.labels.proofs.table.search.Reads as reads
-use Rattle.labels.proofs.table.search.Lts as lts
-use Rattle.labels.proofs.table.home.Reads as home-reads
-use Rattle.labels.proofs.table.is_label.Reads as is-label-reads
-use Rattle.labels.proofs.table.next.Reads as next-reads
 
 abbrev Inv-loop : tie.InvT-loop
 Inv-loop text table s at name slots k₀ left₀ k left =

@@ -4,8 +4,6 @@ use mathlib.Core.Path.{sym}
 use borrow.Author.Needs.{needs}
 use Rattle.labels.proofs.text.byte.Statement.{statement}
 use Rattle.labels.proofs.text.byte.Tie as tie
-use Rattle.labels.proofs.text.byte.Reads as reads
-use Rattle.labels.proofs.text.byte.Lts as lts
 
 -- src/text.rt:13:16
 shared-slice-read-result : tie.Need-shared-slice-read-result

@@ -1,10 +1,6 @@
 use borrow.Author.Needs.{needs}
 use Rattle.labels.proofs.text.part.Statement.{statement}
 use Rattle.labels.proofs.text.part.Tie as tie
-use Rattle.labels.proofs.text.part.Reads as reads
-use Rattle.labels.proofs.text.part.Lts as lts
-use Rattle.labels.proofs.text.digit.Reads as digit-reads
-use Rattle.labels.proofs.text.letter.Reads as letter-reads
 
 -- src/text.rt:33:5
 letter-requires : tie.Need-letter-requires

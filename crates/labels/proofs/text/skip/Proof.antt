@@ -7,9 +7,6 @@ use Prim.Native.Nat.{_-_}
 use mathlib.Core.Path.{sym, _∙_, refl}
 use Rattle.labels.proofs.text.skip.Statement.{statement}
 use Rattle.labels.proofs.text.skip.Tie as tie
-use Rattle.labels.proofs.text.skip.Reads as reads
-use Rattle.labels.proofs.text.skip.Lts as lts
-use Rattle.labels.proofs.text.byte.Reads as byte-reads
 
 abbrev Inv-loop : tie.InvT-loop
 Inv-loop s at n₀ n = Going isSpace s at n

@@ -3,9 +3,6 @@ use mathlib.Core.Path.{_∙_}
 use borrow.Author.Needs.{needs}
 use Rattle.lines.proofs.instructions.bits.Statement.{statement}
 use Rattle.lines.proofs.instructions.bits.Tie as tie
-use Rattle.lines.proofs.instructions.bits.Reads as reads
-use Rattle.lines.proofs.instructions.bits.Lts as lts
-use Rattle.std.proofs.num.wrapping_add_u64.Reads as wrapping-add-u64-reads
 
 -- src/instructions.rt:45:5
 wrapping-add-u64-requires : tie.Need-wrapping-add-u64-requires

@@ -16,13 +16,6 @@ use mathlib.Core.Path.{refl, sym, _∙_, ap}
 use borrow.Author.Needs.{needs}
 use Rattle.lines.proofs.instructions.instruction.Statement.{statement}
 use Rattle.lines.proofs.instructions.instruction.Tie as tie
-use Rattle.lines.proofs.instructions.instruction.Reads as reads
-use Rattle.lines.proofs.instructions.instruction.Lts as lts
-use Rattle.forms.proofs.form_of.Reads as form-of-reads
-use Rattle.lines.proofs.instructions.nothing_more.Reads as nothing-more-reads
-use Rattle.lines.proofs.instructions.one_and_number.Reads as one-and-number-reads
-use Rattle.lines.proofs.instructions.three_registers.Reads as three-registers-reads
-use Rattle.lines.proofs.instructions.two_and_number.Reads as two-and-number-reads
 
 -- src/instructions.rt:132:9
 form-of-requires : tie.Need-form-of-requires

@@ -9,10 +9,6 @@ use mathlib.Core.Path.{_∙_}
 use borrow.Author.Needs.{needs}
 use Rattle.lines.proofs.instructions.nothing_more.Statement.{statement}
 use Rattle.lines.proofs.instructions.nothing_more.Tie as tie
-use Rattle.lines.proofs.instructions.nothing_more.Reads as reads
-use Rattle.lines.proofs.instructions.nothing_more.Lts as lts
-use Rattle.lines.proofs.instructions.word.Reads as word-reads
-use Rattle.labels.proofs.text.skip.Reads as skip-reads
 
 -- src/instructions.rt:115:9
 skip-requires : tie.Need-skip-requires

@@ -10,12 +10,6 @@ use mathlib.Core.Path.{_∙_, ap}
 use borrow.Author.Needs.{needs}
 use Rattle.lines.proofs.instructions.one_and_number.Statement.{statement}
 use Rattle.lines.proofs.instructions.one_and_number.Tie as tie
-use Rattle.lines.proofs.instructions.one_and_number.Reads as reads
-use Rattle.lines.proofs.instructions.one_and_number.Lts as lts
-use Rattle.lines.proofs.instructions.bits.Reads as bits-reads
-use Rattle.lines.proofs.instructions.word.Reads as word-reads
-use Rattle.lines.proofs.operands.number_last.Reads as number-last-reads
-use Rattle.lines.proofs.operands.register_comma.Reads as register-comma-reads
 
 -- src/instructions.rt:96:25
 register-comma-requires : tie.Need-register-comma-requires

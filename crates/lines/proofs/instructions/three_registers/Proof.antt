@@ -10,11 +10,6 @@ use mathlib.Core.Path.{_∙_, ap}
 use borrow.Author.Needs.{needs}
 use Rattle.lines.proofs.instructions.three_registers.Statement.{statement}
 use Rattle.lines.proofs.instructions.three_registers.Tie as tie
-use Rattle.lines.proofs.instructions.three_registers.Reads as reads
-use Rattle.lines.proofs.instructions.three_registers.Lts as lts
-use Rattle.lines.proofs.instructions.word.Reads as word-reads
-use Rattle.lines.proofs.operands.register_comma.Reads as register-comma-reads
-use Rattle.lines.proofs.operands.register_last.Reads as register-last-reads
 
 -- src/instructions.rt:52:25
 register-comma-requires : tie.Need-register-comma-requires

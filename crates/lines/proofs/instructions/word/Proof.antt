@@ -1,14 +1,10 @@
-use mathlib.Core.Path.{_≡_, sym, _∙_, ap}
+use mathlib.Core.Path.{sym, _∙_, ap}
 use Rattle.words.specs.declared.Encoded.{Encoded}
 use Rattle.lines.specs.Lines.{wordIn, toldBy}
 use Rattle.lines.proofs.Words.{word-is}
 use borrow.Author.Needs.{needs}
 use Rattle.lines.proofs.instructions.word.Statement.{statement}
 use Rattle.lines.proofs.instructions.word.Tie as tie
-use Rattle.lines.proofs.instructions.word.Reads as reads
-use Rattle.lines.proofs.instructions.word.Lts as lts
-use Rattle.lines.proofs.instructions.wide.Reads as wide-reads
-use Rattle.words.proofs.encode_parts.Reads as encode-parts-reads
 
 -- src/instructions.rt:42:11
 encode-parts-requires : tie.Need-encode-parts-requires

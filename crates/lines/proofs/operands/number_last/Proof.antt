@@ -3,14 +3,10 @@ use Rattle.labels.specs.Bytes.{isSpace}
 use Rattle.lines.proofs.Steps.{last-bad, last-no, last-yes, operand-sum}
 use Rattle.lines.specs.Lines.{immediate}
 use Rattle.sums.specs.Code.{seen, of64}
-use mathlib.Core.Path.{_≡_, refl, sym, _∙_, ap}
+use mathlib.Core.Path.{_∙_, ap}
 use borrow.Author.Needs.{needs}
 use Rattle.lines.proofs.operands.number_last.Statement.{statement}
 use Rattle.lines.proofs.operands.number_last.Tie as tie
-use Rattle.lines.proofs.operands.number_last.Reads as reads
-use Rattle.lines.proofs.operands.number_last.Lts as lts
-use Rattle.sums.proofs.sum.Reads as sum-reads
-use Rattle.labels.proofs.text.skip.Reads as skip-reads
 
 -- src/operands.rt:80:55
 skip-requires : tie.Need-skip-requires

@@ -11,16 +11,10 @@ use lib.ListN.{drop}
 use lib.IntN.{pos}
 use native.Mathlib.Omega.{arith}
 use Prim.Native.Nat.{ℕ, _+_, _-_}
-use mathlib.Core.List.{List}
-use mathlib.Core.Path.{_≡_, refl, sym, _∙_, ap}
+use mathlib.Core.Path.{refl, sym, _∙_, ap}
 use borrow.Author.Needs.{needs}
 use Rattle.lines.proofs.operands.register.Statement.{statement}
 use Rattle.lines.proofs.operands.register.Tie as tie
-use Rattle.lines.proofs.operands.register.Reads as reads
-use Rattle.lines.proofs.operands.register.Lts as lts
-use Rattle.lines.proofs.operands.teen.Reads as teen-reads
-use Rattle.labels.proofs.text.byte.Reads as byte-reads
-use Rattle.labels.proofs.text.digit.Reads as digit-reads
 
 -- src/operands.rt:33:9
 byte-requires : tie.Need-byte-requires

@@ -1,22 +1,14 @@
 use Rattle.labels.specs.Bytes.{isSpace}
 use Rattle.labels.proofs.Steps.{passed}
-use Rattle.lines.proofs.Steps.{comma-bad, comma-no, comma-yes, last-bad, last-no, last-yes, operand-bad, operand-reg}
+use Rattle.lines.proofs.Steps.{last-bad, last-no, last-yes, operand-bad, operand-reg}
 use Rattle.lines.specs.Code.{Within}
 use Rattle.lines.specs.Lines.{register}
 use mathlib.Core.List.{[]}
 use Rattle.sums.specs.Code.{lookIn}
-use Rattle.sums.proofs.Terms.{at-byte}
-use lib.IntN.{pos}
-use native.Mathlib.Omega.{arith}
-use Prim.Native.Nat.{ℕ, _+_}
-use mathlib.Core.Path.{_≡_, refl, sym, _∙_, ap, subst}
+use mathlib.Core.Path.{subst}
 use borrow.Author.Needs.{needs}
 use Rattle.lines.proofs.operands.register_last.Statement.{statement}
 use Rattle.lines.proofs.operands.register_last.Tie as tie
-use Rattle.lines.proofs.operands.register_last.Reads as reads
-use Rattle.lines.proofs.operands.register_last.Lts as lts
-use Rattle.lines.proofs.operands.register.Reads as register-reads
-use Rattle.labels.proofs.text.skip.Reads as skip-reads
 
 -- src/operands.rt:66:37
 skip-requires : tie.Need-skip-requires

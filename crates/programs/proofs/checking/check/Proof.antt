@@ -4,14 +4,10 @@ use Rattle.programs.specs.Programs.{linesOf}
 use lib.ListN.{length, drop}
 use borrow.Author.Needs.{needs}
 use native.Mathlib.Omega.{arith}
-use Prim.Native.Nat.{ℕ, _+_, _-_, _≤_}
-use mathlib.Core.Path.{_≡_, refl, sym, ap, _∙_}
+use Prim.Native.Nat.{_+_, _-_, _≤_}
+use mathlib.Core.Path.{_≡_, refl, sym, _∙_}
 use Rattle.programs.proofs.checking.check.Statement.{statement}
 use Rattle.programs.proofs.checking.check.Tie as tie
-use Rattle.programs.proofs.checking.check.Reads as reads
-use Rattle.programs.proofs.checking.check.Lts as lts
-use Rattle.programs.proofs.checking.one_line.Reads as one-line-reads
-use Rattle.programs.proofs.spans.span_at.Reads as span-at-reads
 
 abbrev Inv-loop : tie.InvT-loop
 Inv-loop text table second at₀ before₀ own₀ at before own =

@@ -2,13 +2,10 @@ use Rattle.programs.proofs.Checks.{step-is}
 use Rattle.programs.specs.declared.checking.Step.the-variants as Step
 use Rattle.lines.specs.Code.{saidOf}
 use mathlib.Core.Bool.{Bool, cond}
-use mathlib.Core.Path.{_≡_, sym, ap, _∙_}
+use mathlib.Core.Path.{sym, ap, _∙_}
 use borrow.Author.Needs.{needs}
 use Rattle.programs.proofs.checking.one_line.Statement.{statement}
 use Rattle.programs.proofs.checking.one_line.Tie as tie
-use Rattle.programs.proofs.checking.one_line.Reads as reads
-use Rattle.programs.proofs.checking.one_line.Lts as lts
-use Rattle.lines.proofs.line.Reads as line-reads
 
 -- src/checking.rt:25:11
 line-requires : tie.Need-line-requires

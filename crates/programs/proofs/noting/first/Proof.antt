@@ -1,10 +1,8 @@
 use borrow.Author.Tests.{eq-eqb, ne-eqb}
 use mathlib.Core.Bool.{Bool, cond}
-use mathlib.Core.Path.{_≡_, sym, ap}
+use mathlib.Core.Path.{sym, ap}
 use Rattle.programs.proofs.noting.first.Statement.{statement}
 use Rattle.programs.proofs.noting.first.Tie as tie
-use Rattle.programs.proofs.noting.first.Reads as reads
-use Rattle.programs.proofs.noting.first.Lts as lts
 
 -- src/noting.rt:41:1
 returns : tie.Need-returns

@@ -2,8 +2,6 @@ use borrow.Author.Tests.{eq-eqb, ne-eqb}
 use borrow.Author.Needs.{needs}
 use Rattle.programs.proofs.noting.is_plain.Statement.{statement}
 use Rattle.programs.proofs.noting.is_plain.Tie as tie
-use Rattle.programs.proofs.noting.is_plain.Reads as reads
-use Rattle.programs.proofs.noting.is_plain.Lts as lts
 
 -- src/noting.rt:75:9
 returns : tie.Need-returns

@@ -1,21 +1,16 @@
 use Rattle.programs.proofs.Meets.{after-new, after-again, after-full}
 use Rattle.programs.specs.declared.noting.Met.the-variants as Met
-use Rattle.programs.specs.Code.{After, after, defined, secondBy, slotAfter, labelAfter}
+use Rattle.programs.specs.Code.{after, defined, secondBy, slotAfter}
 use Rattle.labels.specs.Bytes.{keyOf}
-use Rattle.labels.specs.Table.{slotsOf, searchIn, withLabel}
+use Rattle.labels.specs.Table.{searchIn}
 use Rattle.labels.specs.Reading.{nameAt}
 use borrow.Author.Tests.{le-leb, lt-leb}
 use Prim.Native.Nat.{ℕ}
-use mathlib.Core.List.{List}
 use mathlib.Core.Bool.{Bool, cond}
-use mathlib.Core.Path.{_≡_, sym, ap, _∙_}
+use mathlib.Core.Path.{sym, ap, _∙_}
 use borrow.Author.Needs.{needs}
 use Rattle.programs.proofs.noting.note_label.Statement.{statement}
 use Rattle.programs.proofs.noting.note_label.Tie as tie
-use Rattle.programs.proofs.noting.note_label.Reads as reads
-use Rattle.programs.proofs.noting.note_label.Lts as lts
-use Rattle.labels.proofs.table.note.Reads as note-reads
-use Rattle.programs.proofs.noting.first.Reads as first-reads
 
 -- src/noting.rt:52:9
 returns : tie.Need-returns

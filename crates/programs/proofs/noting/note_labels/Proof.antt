@@ -1,21 +1,15 @@
-use mathlib.Core.List.{List}
-use Rattle.programs.specs.Code.{lineAfter}
 use lib.ListN.{length-take}
 use Rattle.programs.proofs.Meets.{kept-go, kept-short}
 use Rattle.programs.proofs.Notes.{Noting, noting-none, noting-all}
 use Rattle.programs.specs.declared.noting.Met.{Met}
 use Rattle.programs.specs.Code.{after}
-use lib.ListN.{length, take, drop}
+use lib.ListN.{length, drop}
 use borrow.Author.Needs.{needs}
 use native.Mathlib.Omega.{arith}
-use Prim.Native.Nat.{ℕ, _+_, _-_, _≤_}
+use Prim.Native.Nat.{_-_, _≤_}
 use mathlib.Core.Path.{_≡_, refl, sym, ap, _∙_}
 use Rattle.programs.proofs.noting.note_labels.Statement.{statement}
 use Rattle.programs.proofs.noting.note_labels.Tie as tie
-use Rattle.programs.proofs.noting.note_labels.Reads as reads
-use Rattle.programs.proofs.noting.note_labels.Lts as lts
-use Rattle.programs.proofs.noting.note_line.Reads as note-line-reads
-use Rattle.programs.proofs.spans.span_at.Reads as span-at-reads
 
 abbrev Inv-loop : tie.InvT-loop
 Inv-loop text table₀ at₀ before₀ own₀ count₀ second₀ table at before own count second =

@@ -1,5 +1,5 @@
 use Rattle.programs.proofs.Meets.{plain-after}
-use Rattle.programs.specs.Code.{after, counted, startAfter, lineAfter}
+use Rattle.programs.specs.Code.{after, startAfter, lineAfter}
 use Rattle.programs.specs.declared.noting.Tally.{Tally}
 use Rattle.programs.specs.declared.noting.Met.the-variants as Met
 use Rattle.lines.specs.declared.Start.{Start}
@@ -9,16 +9,10 @@ use Rattle.labels.specs.Bytes.{isLetter}
 use lib.ListN.{length}
 use native.Mathlib.Omega.{arith}
 use Prim.Native.Nat.{_<_}
-use mathlib.Core.Path.{_≡_, refl, sym, ap, _∙_}
+use mathlib.Core.Path.{refl, sym, ap, _∙_}
 use borrow.Author.Needs.{needs}
 use Rattle.programs.proofs.noting.note_line.Statement.{statement}
 use Rattle.programs.proofs.noting.note_line.Tie as tie
-use Rattle.programs.proofs.noting.note_line.Reads as reads
-use Rattle.programs.proofs.noting.note_line.Lts as lts
-use Rattle.lines.proofs.start_of.Reads as start-of-reads
-use Rattle.programs.proofs.noting.is_plain.Reads as is-plain-reads
-use Rattle.programs.proofs.noting.note_label.Reads as note-label-reads
-use Rattle.programs.proofs.noting.one_more.Reads as one-more-reads
 
 -- src/noting.rt:86:8
 is-plain-requires : tie.Need-is-plain-requires

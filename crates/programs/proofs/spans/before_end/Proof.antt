@@ -4,9 +4,6 @@ use mathlib.Core.Path.{sym, _∙_}
 use borrow.Author.Needs.{needs}
 use Rattle.programs.proofs.spans.before_end.Statement.{statement}
 use Rattle.programs.proofs.spans.before_end.Tie as tie
-use Rattle.programs.proofs.spans.before_end.Reads as reads
-use Rattle.programs.proofs.spans.before_end.Lts as lts
-use Rattle.labels.proofs.text.byte.Reads as byte-reads
 
 -- src/lib.rt:39:9
 returns : tie.Need-returns

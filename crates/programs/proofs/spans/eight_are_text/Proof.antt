@@ -3,8 +3,6 @@ use Rattle.programs.proofs.Lines.{text-to}
 use borrow.Author.Needs.{needs}
 use Rattle.programs.proofs.spans.eight_are_text.Statement.{statement}
 use Rattle.programs.proofs.spans.eight_are_text.Tie as tie
-use Rattle.programs.proofs.spans.eight_are_text.Reads as reads
-use Rattle.programs.proofs.spans.eight_are_text.Lts as lts
 
 -- src/spans.rt:39:6
 shared-slice-read-result : tie.Need-shared-slice-read-result

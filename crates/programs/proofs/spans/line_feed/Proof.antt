@@ -1,5 +1,5 @@
-use mathlib.Core.Path.{_≡_, sym, _∙_}
-use Prim.Native.Nat.{_+_, _-_, _≤_}
+use mathlib.Core.Path.{sym, _∙_}
+use Prim.Native.Nat.{_-_, _≤_}
 use native.Mathlib.Omega.{arith}
 use lib.ListN.{length}
 use borrow.Author.Tests.{not-false}
@@ -8,10 +8,6 @@ use Rattle.programs.specs.Code.{isText}
 use Rattle.programs.proofs.Lines.{feed-far, feed-rest}
 use Rattle.programs.proofs.spans.line_feed.Statement.{statement}
 use Rattle.programs.proofs.spans.line_feed.Tie as tie
-use Rattle.programs.proofs.spans.line_feed.Reads as reads
-use Rattle.programs.proofs.spans.line_feed.Lts as lts
-use Rattle.programs.proofs.spans.eight_are_text.Reads as eight-are-text-reads
-use Rattle.programs.proofs.spans.next_feed.Reads as next-feed-reads
 
 abbrev Inv-loop : tie.InvT-loop
 Inv-loop s at n₀ n = (n ≤ length s) × Going isText s at n

@@ -6,8 +6,6 @@ use lib.ListN.{length}
 use Prim.Native.Nat.{_-_}
 use Rattle.programs.proofs.spans.next_feed.Statement.{statement}
 use Rattle.programs.proofs.spans.next_feed.Tie as tie
-use Rattle.programs.proofs.spans.next_feed.Reads as reads
-use Rattle.programs.proofs.spans.next_feed.Lts as lts
 
 abbrev Inv-loop : tie.InvT-loop
 Inv-loop s at n₀ n = Going isText s at n

@@ -3,10 +3,6 @@ use native.Mathlib.Omega.{arith}
 use borrow.Author.Needs.{needs}
 use Rattle.programs.proofs.spans.span_at.Statement.{statement}
 use Rattle.programs.proofs.spans.span_at.Tie as tie
-use Rattle.programs.proofs.spans.span_at.Reads as reads
-use Rattle.programs.proofs.spans.span_at.Lts as lts
-use Rattle.programs.proofs.spans.before_end.Reads as before-end-reads
-use Rattle.programs.proofs.spans.line_feed.Reads as line-feed-reads
 
 -- src/lib.rt:53:9
 line-feed-requires : tie.Need-line-feed-requires

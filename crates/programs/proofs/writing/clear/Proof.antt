@@ -2,13 +2,11 @@ use lib.Seq.{take-all, take-suc-set}
 use lib.ListN.{length, set, take, replicate, length-set, replicate-append-replicate}
 use native.Mathlib.Omega.{arith}
 use native.Mathlib.Numerals.{add-one}
-use Prim.Native.Nat.{ℕ, suc, _+_, _-_, _≤_}
-use mathlib.Core.List.{List, [], _∷_, _++_}
+use Prim.Native.Nat.{ℕ, _+_, _-_, _≤_}
+use mathlib.Core.List.{[], _∷_, _++_}
 use mathlib.Core.Path.{_≡_, refl, sym, ap, _∙_}
 use Rattle.programs.proofs.writing.clear.Statement.{statement}
 use Rattle.programs.proofs.writing.clear.Tie as tie
-use Rattle.programs.proofs.writing.clear.Reads as reads
-use Rattle.programs.proofs.writing.clear.Lts as lts
 
 abbrev Inv-loop : tie.InvT-loop
 Inv-loop table₀ i₀ table i = (length table ≡ length table₀) × (i ≤ length table₀) × (take i table ≡ replicate i 0)

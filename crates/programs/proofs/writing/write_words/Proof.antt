@@ -9,16 +9,10 @@ use lib.ListN.{length, drop}
 use borrow.Author.Needs.{needs}
 use native.Mathlib.Omega.{arith}
 use Prim.Native.Nat.{ℕ, suc, _+_, _-_, _*_, _≤_}
-use mathlib.Core.List.{List, _∷_}
+use mathlib.Core.List.{List}
 use mathlib.Core.Path.{_≡_, refl, sym, ap, _∙_}
 use Rattle.programs.proofs.writing.write_words.Statement.{statement}
 use Rattle.programs.proofs.writing.write_words.Tie as tie
-use Rattle.programs.proofs.writing.write_words.Reads as reads
-use Rattle.programs.proofs.writing.write_words.Lts as lts
-use Rattle.lines.proofs.line.Reads as line-reads
-use Rattle.memory.proofs.bytes.put_number.Reads as put-number-reads
-use Rattle.programs.proofs.spans.span_at.Reads as span-at-reads
-use Rattle.programs.proofs.writing.wide.Reads as wide-reads
 
 abbrev Inv-loop : tie.InvT-loop
 Inv-loop text table words₀ at₀ own₀ to₀ words at own to =

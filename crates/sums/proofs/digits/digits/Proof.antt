@@ -12,13 +12,6 @@ use Prim.Native.Nat.{ℕ, _+_, _-_, _*_}
 use mathlib.Core.Path.{_≡_, sym, _∙_, refl, ap, subst}
 use Rattle.sums.proofs.digits.digits.Statement.{statement}
 use Rattle.sums.proofs.digits.digits.Tie as tie
-use Rattle.sums.proofs.digits.digits.Reads as reads
-use Rattle.sums.proofs.digits.digits.Lts as lts
-use Rattle.sums.proofs.digits.within.Reads as within-reads
-use Rattle.sums.proofs.digits.worth.Reads as worth-reads
-use Rattle.sums.proofs.numbers.of_digits.Reads as of-digits-reads
-use Rattle.labels.proofs.text.byte.Reads as byte-reads
-use Rattle.labels.proofs.text.digit.Reads as digit-reads
 
 abbrev Inv-loop : tie.InvT-loop
 Inv-loop s at negative v₀ n₀ v n = Counting s at v n

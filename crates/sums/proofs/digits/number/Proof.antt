@@ -5,10 +5,6 @@ use mathlib.Core.Path.{sym, _∙_}
 use borrow.Author.Needs.{needs}
 use Rattle.sums.proofs.digits.number.Statement.{statement}
 use Rattle.sums.proofs.digits.number.Tie as tie
-use Rattle.sums.proofs.digits.number.Reads as reads
-use Rattle.sums.proofs.digits.number.Lts as lts
-use Rattle.sums.proofs.digits.digits.Reads as digits-reads
-use Rattle.labels.proofs.text.byte.Reads as byte-reads
 
 -- src/digits.rt:52:9
 byte-requires : tie.Need-byte-requires

@@ -1,19 +1,14 @@
 use mathlib.Core.Bool.{Bool, cond}
-use mathlib.Core.Path.{_≡_, refl, sym, ap, _∙_}
-use Prim.Native.Nat.{ℕ, _+_, _-_, _*_, _^_}
+use mathlib.Core.Path.{ap, _∙_}
+use Prim.Native.Nat.{_-_}
 use native.Mathlib.Omega.{arith}
-use lib.Dec.{eqb}
 use borrow.Author.Tests.{eq-eqb, ne-eqb}
-use Rattle.sums.specs.Sums.{checked, join, add, sub, dif}
+use Rattle.sums.specs.Sums.{checked, join, add, sub}
 use Rattle.sums.specs.Code.{of64}
-use Rattle.sums.proofs.Differences.{dif-eq, dif-add, dif-sub, dif-fits, dif-high, dif-low, signed-dif}
+use Rattle.sums.proofs.Differences.{dif-eq, dif-add, dif-sub}
 use borrow.Author.Needs.{needs}
 use Rattle.sums.proofs.numbers.joined.Statement.{statement}
 use Rattle.sums.proofs.numbers.joined.Tie as tie
-use Rattle.sums.proofs.numbers.joined.Reads as reads
-use Rattle.sums.proofs.numbers.joined.Lts as lts
-use Rattle.sums.proofs.numbers.minus.Reads as minus-reads
-use Rattle.sums.proofs.numbers.plus.Reads as plus-reads
 
 -- src/numbers.rt:82:9
 plus-requires : tie.Need-plus-requires

@@ -1,18 +1,11 @@
-use mathlib.Core.Path.{_≡_, refl, sym, ap, _∙_}
-use Prim.Native.Nat.{ℕ, _+_, _-_, _*_, _^_}
+use mathlib.Core.Path.{ap, _∙_}
+use Prim.Native.Nat.{_-_}
 use native.Mathlib.Omega.{arith}
-use lib.Dec.{eqb}
-use borrow.Author.Tests.{eq-eqb, ne-eqb}
-use Rattle.sums.specs.Sums.{checked, join, add, sub, dif}
-use Rattle.sums.specs.Code.{of64}
-use Rattle.sums.proofs.Differences.{dif-eq, dif-add, dif-sub, dif-fits, dif-high, dif-low, signed-dif}
+use Rattle.sums.specs.Sums.{checked}
+use Rattle.sums.proofs.Differences.{dif-eq}
 use borrow.Author.Needs.{needs}
 use Rattle.sums.proofs.numbers.plus.Statement.{statement}
 use Rattle.sums.proofs.numbers.plus.Tie as tie
-use Rattle.sums.proofs.numbers.plus.Reads as reads
-use Rattle.sums.proofs.numbers.plus.Lts as lts
-use Rattle.sums.proofs.numbers.lowered.Reads as lowered-reads
-use Rattle.sums.proofs.numbers.raised.Reads as raised-reads
 
 -- src/numbers.rt:63:9
 raised-requires : tie.Need-raised-requires

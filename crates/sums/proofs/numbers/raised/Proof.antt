@@ -1,16 +1,10 @@
-use mathlib.Core.Path.{_≡_, refl, sym, ap, _∙_}
-use Prim.Native.Nat.{ℕ, _+_, _-_, _*_, _^_}
+use mathlib.Core.Path.{refl}
+use Prim.Native.Nat.{_-_}
 use native.Mathlib.Omega.{arith}
-use lib.Dec.{eqb}
-use borrow.Author.Tests.{eq-eqb, ne-eqb}
-use Rattle.sums.specs.Sums.{checked, join, add, sub, dif}
-use Rattle.sums.specs.Code.{of64}
-use Rattle.sums.proofs.Differences.{dif-eq, dif-add, dif-sub, dif-fits, dif-high, dif-low, signed-dif}
+use Rattle.sums.proofs.Differences.{dif-fits, dif-high}
 use borrow.Author.Needs.{needs}
 use Rattle.sums.proofs.numbers.raised.Statement.{statement}
 use Rattle.sums.proofs.numbers.raised.Tie as tie
-use Rattle.sums.proofs.numbers.raised.Reads as reads
-use Rattle.sums.proofs.numbers.raised.Lts as lts
 
 -- src/numbers.rt:17:13
 sub-if1 : tie.Need-sub-if1
