@@ -9,7 +9,7 @@ use lib.Dec.{eqb}
 use borrow.Author.Tests.{eq-eqb, ne-eqb, eqb-true, eqb-false}
 use Rattle.labels.specs.Bytes.{eqBytes, keyOf}
 use Rattle.labels.specs.Reading.{nameAt}
-use Rattle.labels.specs.Table.{slotsOf, placeAt, keyAt, indexAt, homeOf, nextOf, holds, searchFrom, searchIn, indexBy, indexIn}
+use Rattle.labels.specs.Table.{slotsOf, placeAt, keyAt, indexAt, homeOf, nextOf, holdsName, searchFrom, searchIn, indexBy, indexIn}
 use Rattle.labels.specs.declared.table.Slot.{Slot}
 use Rattle.labels.specs.declared.table.Slot.the-variants.{Held, Free, Full}
 use Rattle.labels.proofs.Spans.{both-true}
@@ -38,9 +38,9 @@ keyed s t = go (eqBytes s t) refl
 
 -- ---- where a search ends
 module _ (text table name : List ℕ) where
-  -- a slot that holds the name
+  -- a slot that holdsName the name
   abbrev pub Holds : ℕ → Type 0
-  Holds h = (keyAt table h ≡ 0 → ⊥) × (holds text table name h ≡ true)
+  Holds h = (keyAt table h ≡ 0 → ⊥) × (holdsName text table name h ≡ true)
 
   abbrev Ended : Slot → Type 0
   Ended (Held h) = Holds h
@@ -50,9 +50,9 @@ module _ (text table name : List ℕ) where
   ends : (left k : ℕ) → Ended (searchFrom text table name left k)
   unfolding searchFrom
   ends zero k = tt
-  ends (suc left) k = go (eqb (keyAt table k) 0) (holds text table name k) refl refl (ends left (nextOf (slotsOf table) k))
+  ends (suc left) k = go (eqb (keyAt table k) 0) (holdsName text table name k) refl refl (ends left (nextOf (slotsOf table) k))
     where
-      go : (a b : Bool) → eqb (keyAt table k) 0 ≡ a → holds text table name k ≡ b → Ended (searchFrom text table name left (nextOf (slotsOf table) k))
+      go : (a b : Bool) → eqb (keyAt table k) 0 ≡ a → holdsName text table name k ≡ b → Ended (searchFrom text table name left (nextOf (slotsOf table) k))
           → Ended (cond a (Free k) (cond b (Held k) (searchFrom text table name left (nextOf (slotsOf table) k))))
       go true b ea eb rest = eqb-true (keyAt table k) 0 ea
       go false true ea eb rest = (eqb-false (keyAt table k) 0 ea, eb)
@@ -80,22 +80,22 @@ module _ (text old new : List ℕ) (j : ℕ) (c : Changed old new j) where
   taken-other : (k : ℕ) → (keyAt old k ≡ 0 → ⊥) → k ≡ j → ⊥
   taken-other k n e = n (ap (keyAt old) e ∙ c .free)
 
-  holds-same : (name : List ℕ) (k : ℕ) → (k ≡ j → ⊥) → holds text new name k ≡ holds text old name k
+  holds-same : (name : List ℕ) (k : ℕ) → (k ≡ j → ⊥) → holdsName text new name k ≡ holdsName text old name k
   holds-same name k n =
       ap (λ (q : ℕ). eqb q (keyOf name) && eqBytes (nameAt text (placeAt new k)) name) (c .key k n)
       ∙ ap (λ (p : ℕ). eqb (keyAt old k) (keyOf name) && eqBytes (nameAt text p) name) (c .place k n)
 
-  -- a slot passed over before is passed over, and one that held the name holds it
+  -- a slot passed over before is passed over, and one that held the name holdsName it
   turn-same : (name : List ℕ) (left k : ℕ) → (keyAt old k ≡ 0 → ⊥) → searchFrom text new name (suc left) k
-      ≡ cond (holds text old name k) (Held k) (searchFrom text new name left (nextOf (slotsOf old) k))
+      ≡ cond (holdsName text old name k) (Held k) (searchFrom text new name left (nextOf (slotsOf old) k))
   unfolding searchFrom
   turn-same name left k n =
       let o = taken-other k n in
-      ap (λ (t : Bool). cond t (Free k) (cond (holds text new name k) (Held k) (searchFrom text new name left (nextOf (slotsOf new) k)))) (ne-eqb (keyAt new k) 0 (λ z. n (sym (c .key k o) ∙ z)))
+      ap (λ (t : Bool). cond t (Free k) (cond (holdsName text new name k) (Held k) (searchFrom text new name left (nextOf (slotsOf new) k)))) (ne-eqb (keyAt new k) 0 (λ z. n (sym (c .key k o) ∙ z)))
       ∙ ap (λ (t : Bool). cond t (Held k) (searchFrom text new name left (nextOf (slotsOf new) k))) (holds-same name k o)
-      ∙ ap (λ (n : ℕ). cond (holds text old name k) (Held k) (searchFrom text new name left (nextOf n k))) (c .slots)
+      ∙ ap (λ (n : ℕ). cond (holdsName text old name k) (Held k) (searchFrom text new name left (nextOf n k))) (c .slots)
 
-  -- a search that ended in a slot ends there; one that ended in the changed slot, where that holds the name now
+  -- a search that ended in a slot ends there; one that ended in the changed slot, where that holdsName the name now
   abbrev Follows : List ℕ → Slot → Slot → Type 0
   Follows name (Held h) r = r ≡ Held h
   Follows name (Free f) r = f ≡ j → Holds text new name j → r ≡ Held j
@@ -104,14 +104,14 @@ module _ (text old new : List ℕ) (j : ℕ) (c : Changed old new j) where
   follow : (name : List ℕ) (left k : ℕ) → Follows name (searchFrom text old name left k) (searchFrom text new name left k)
   unfolding searchFrom
   follow name zero k = tt
-  follow name (suc left) k = go (eqb (keyAt old k) 0) (holds text old name k) refl refl (follow name left (nextOf (slotsOf old) k))
+  follow name (suc left) k = go (eqb (keyAt old k) 0) (holdsName text old name k) refl refl (follow name left (nextOf (slotsOf old) k))
     where
       next : Slot
       next = searchFrom text new name left (nextOf (slotsOf old) k)
 
-      go : (a b : Bool) → eqb (keyAt old k) 0 ≡ a → holds text old name k ≡ b → Follows name (searchFrom text old name left (nextOf (slotsOf old) k)) (searchFrom text new name left (nextOf (slotsOf old) k))
+      go : (a b : Bool) → eqb (keyAt old k) 0 ≡ a → holdsName text old name k ≡ b → Follows name (searchFrom text old name left (nextOf (slotsOf old) k)) (searchFrom text new name left (nextOf (slotsOf old) k))
           → Follows name (cond a (Free k) (cond b (Held k) (searchFrom text old name left (nextOf (slotsOf old) k)))) (searchFrom text new name (suc left) k)
-      go true b ea eb rest = λ e h. search-held text new name k (suc left) (λ z. omega arith) (λ z. h .0 (ap (keyAt new) (sym e) ∙ z)) (ap (holds text new name) e ∙ h .1) ∙ ap Held e
+      go true b ea eb rest = λ e h. search-held text new name k (suc left) (λ z. omega arith) (λ z. h .0 (ap (keyAt new) (sym e) ∙ z)) (ap (holdsName text new name) e ∙ h .1) ∙ ap Held e
       go false true ea eb rest = turn-same name left k (eqb-false (keyAt old k) 0 ea) ∙ ap (λ (t : Bool). cond t (Held k) next) eb
       go false false ea eb rest = subst (Follows name (searchFrom text old name left (nextOf (slotsOf old) k))) (sym (turn-same name left k (eqb-false (keyAt old k) 0 ea) ∙ ap (λ (t : Bool). cond t (Held k) next) eb)) rest
 
@@ -132,7 +132,7 @@ Findable text table = (name : List ℕ) (k : ℕ) → k < slotsOf table → Hold
 module _ (text old new : List ℕ) (j place index : ℕ) (c : Changed old new j) (below : j < slotsOf old) (findable : Findable text old)
     (key-is : keyAt new j ≡ keyOf (nameAt text place)) (place-is : placeAt new j ≡ place) (index-is : indexAt new j ≡ index)
     (named : keyOf (nameAt text place) ≡ 0 → ⊥) (was-free : searchIn text old (nameAt text place) ≡ Free j) where
-  holds-new : (m : List ℕ) → holds text new m j ≡ eqBytes (nameAt text place) m
+  holds-new : (m : List ℕ) → holdsName text new m j ≡ eqBytes (nameAt text place) m
   holds-new m =
       ap (λ (q : ℕ). eqb q (keyOf m) && eqBytes (nameAt text (placeAt new j)) m) key-is ∙ ap (λ (p : ℕ). eqb (keyOf (nameAt text place)) (keyOf m) && eqBytes (nameAt text p) m) place-is
       ∙ keyed (nameAt text place) m
@@ -144,7 +144,7 @@ module _ (text old new : List ℕ) (j place index : ℕ) (c : Changed old new j)
   new-held m e = let q = bytes-equal (nameAt text place) m e in
       now-held text old new j c m (ap (searchIn text old) (sym q) ∙ was-free) (new-taken, holds-new m ∙ e)
 
-  -- what holds a name now held it before, or is the slot that was changed
+  -- what holdsName a name now held it before, or is the slot that was changed
   holds-old : (m : List ℕ) (k : ℕ) → (k ≡ j → ⊥) → Holds text new m k → Holds text old m k
   holds-old m k n h = (λ z. h .0 (c .key k n ∙ z), sym (holds-same text old new j c m k n) ∙ h .1)
 
@@ -152,7 +152,7 @@ module _ (text old new : List ℕ) (j place index : ℕ) (c : Changed old new j)
   new-findable m k b h = go (eqb k j) refl
     where
       go : (t : Bool) → eqb k j ≡ t → searchIn text new m ≡ Held k
-      go true e = let q = eqb-true k j e in new-held m (sym (holds-new m) ∙ ap (holds text new m) (sym q) ∙ h .1) ∙ ap Held (sym q)
+      go true e = let q = eqb-true k j e in new-held m (sym (holds-new m) ∙ ap (holdsName text new m) (sym q) ∙ h .1) ∙ ap Held (sym q)
       go false e = still-held text old new j c m k (findable m k (subst (λ (n : ℕ). k < n) (c .slots) b) (holds-old m k (eqb-false k j e) h))
 
   -- a name that was not found is found now only if it is the new one
@@ -163,7 +163,7 @@ module _ (text old new : List ℕ) (j place index : ℕ) (c : Changed old new j)
       now = held-holds text new m h e
 
       go : (t : Bool) → eqb h j ≡ t → ⊥
-      go true q = let f : true ≡ false = sym (now .1) ∙ ap (holds text new m) (eqb-true h j q) ∙ holds-new m ∙ t in let z : _≡_ {A = ℕ} 0 1 = cc in omega arith
+      go true q = let f : true ≡ false = sym (now .1) ∙ ap (holdsName text new m) (eqb-true h j q) ∙ holds-new m ∙ t in let z : _≡_ {A = ℕ} 0 1 = cc in omega arith
       go false q = n (findable m h (subst (λ (n : ℕ). h < n) (c .slots) (held-below text new m h e)) (holds-old m h (eqb-false h j q) now))
 
   pub new-index : (m : List ℕ) → indexIn text new m ≡ cond (eqBytes (nameAt text place) m) (some index) (indexIn text old m)

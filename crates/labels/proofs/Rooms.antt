@@ -8,7 +8,7 @@ use native.Mathlib.Omega.{arith}
 use lib.Dec.{eqb, leb, ltb}
 use borrow.Author.Tests.{eq-eqb, ne-eqb, eqb-true, eqb-false, leb-true, leb-false, lt-ltb, le-ltb, ltb-true}
 use Rattle.labels.specs.Bytes.{keyOf}
-use Rattle.labels.specs.Table.{slotsOf, keyAt, homeOf, nextOf, holds, searchFrom, searchIn}
+use Rattle.labels.specs.Table.{slotsOf, keyAt, homeOf, nextOf, holdsName, searchFrom, searchIn}
 use Rattle.labels.specs.declared.table.Slot.the-variants.{Held, Free, Full}
 use Rattle.labels.proofs.Searches.{next-below, home-below}
 use Rattle.labels.proofs.Noting.{Changed}
@@ -87,7 +87,7 @@ module _ (text table name : List ℕ) (k : ℕ) (b : k < slotsOf table) where
       → (u j : ℕ) → t ≤ u → u < slotsOf table → At (slotsOf table) k b u j → j < slotsOf table → keyAt table j ≡ 0 → ⊥
   unfolding searchFrom
   seen zero t x e l a f u j h m q i z = omega arith
-  seen (suc left) t x e l a f u j h m q i z = go (eqb (keyAt table x) 0) (holds text table name x) (eqb u t) refl refl f
+  seen (suc left) t x e l a f u j h m q i z = go (eqb (keyAt table x) 0) (holdsName text table name x) (eqb u t) refl refl f
       (λ f′ h′. seen left (t + 1) (nextOf (slotsOf table) x) (omega arith) (next-below (slotsOf table) x l) (at-next (slotsOf table) k b t x (omega arith) l a) f′ u j h′ m q i z)
     where
       go : (c d s : Bool) → eqb (keyAt table x) 0 ≡ c → eqb u t ≡ s → cond c (Free x) (cond d (Held x) (searchFrom text table name left (nextOf (slotsOf table) x))) ≡ Full

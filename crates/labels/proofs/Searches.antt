@@ -11,26 +11,26 @@ use lib.Seq.{sets}
 use borrow.Author.Tests.{eq-eqb, ne-eqb, eqb-false, ltb-false, lt-ltb, le-ltb}
 use lib.Dec.{eqb, ltb}
 use Rattle.labels.specs.Bytes.{keyOf}
-use Rattle.labels.specs.Table.{slotsOf, keyAt, spreadOf, homeOf, nextOf, holds, searchFrom, searchIn}
+use Rattle.labels.specs.Table.{slotsOf, keyAt, spreadOf, homeOf, nextOf, holdsName, searchFrom, searchIn}
 use Rattle.labels.specs.declared.table.Slot.{Slot}
 use Rattle.labels.specs.declared.table.Slot.the-variants.{Held, Free, Full}
 
 module _ (text table name : List ℕ) (k : ℕ) where
   search-turn : (left : ℕ) → (left ≡ 0 → ⊥) → searchFrom text table name left k
-      ≡ cond (eqb (keyAt table k) 0) (Free k) (cond (holds text table name k) (Held k) (searchFrom text table name (left - 1) (nextOf (slotsOf table) k)))
+      ≡ cond (eqb (keyAt table k) 0) (Free k) (cond (holdsName text table name k) (Held k) (searchFrom text table name (left - 1) (nextOf (slotsOf table) k)))
   unfolding searchFrom
   search-turn zero n = absurd (n refl)
   search-turn (suc left) n =
-      ap (λ (l : ℕ). cond (eqb (keyAt table k) 0) (Free k) (cond (holds text table name k) (Held k) (searchFrom text table name l (nextOf (slotsOf table) k))))
+      ap (λ (l : ℕ). cond (eqb (keyAt table k) 0) (Free k) (cond (holdsName text table name k) (Held k) (searchFrom text table name l (nextOf (slotsOf table) k))))
       (sym (sub-one (suc left)))
 
   pub search-free : (left : ℕ) → (left ≡ 0 → ⊥) → keyAt table k ≡ 0 → searchFrom text table name left k ≡ Free k
   search-free left n e = search-turn left n ∙ simp (eq-eqb _ _ e)
 
-  pub search-held : (left : ℕ) → (left ≡ 0 → ⊥) → (keyAt table k ≡ 0 → ⊥) → holds text table name k ≡ true → searchFrom text table name left k ≡ Held k
+  pub search-held : (left : ℕ) → (left ≡ 0 → ⊥) → (keyAt table k ≡ 0 → ⊥) → holdsName text table name k ≡ true → searchFrom text table name left k ≡ Held k
   search-held left n e h = search-turn left n ∙ simp (ne-eqb _ _ e, h)
 
-  pub search-on : (left : ℕ) → (left ≡ 0 → ⊥) → (keyAt table k ≡ 0 → ⊥) → holds text table name k ≡ false
+  pub search-on : (left : ℕ) → (left ≡ 0 → ⊥) → (keyAt table k ≡ 0 → ⊥) → holdsName text table name k ≡ false
       → searchFrom text table name left k ≡ searchFrom text table name (left - 1) (nextOf (slotsOf table) k)
   search-on left n e h = search-turn left n ∙ simp (ne-eqb _ _ e, h)
 
@@ -75,7 +75,7 @@ module _ (text table name : List ℕ) where
   from-below : (left k : ℕ) → ((left ≡ 0 → ⊥) → k < slotsOf table) → slotBelow (slotsOf table) (searchFrom text table name left k)
   unfolding searchFrom
   from-below zero k h = tt
-  from-below (suc left) k h = go (eqb (keyAt table k) 0) (holds text table name k) (from-below left (nextOf (slotsOf table) k) (λ _. next-below (slotsOf table) k below))
+  from-below (suc left) k h = go (eqb (keyAt table k) 0) (holdsName text table name k) (from-below left (nextOf (slotsOf table) k) (λ _. next-below (slotsOf table) k below))
     where
       below : k < slotsOf table
       below = h (λ z. omega arith)

@@ -8,7 +8,7 @@ use native.Mathlib.Omega.{arith}
 use borrow.Author.Tests.{eqb-true}
 use lib.ListN.{length, getD, drop}
 use Rattle.labels.specs.Bytes.{isSpace, every, spaces, headOf}
-use Rattle.labels.specs.Reading.{tailOf, run, past, skip}
+use Rattle.labels.specs.Reading.{tailOf, runOf, past, skip}
 
 pub head-drop : (s : List ℕ) (n : ℕ) → headOf (drop n s) ≡ getD s n 0
 unfolding headOf
@@ -41,21 +41,21 @@ both-true true false h = (refl, h)
 both-true false b h = (h, absurd (let z : _≡_ {A = ℕ} 0 1 = cc in omega arith))
 
 module _ (p : ℕ → Bool) where
-  pub run-past : (t : List ℕ) → run p t ++ past p t ≡ t
-  unfolding run past
+  pub run-past : (t : List ℕ) → runOf p t ++ past p t ≡ t
+  unfolding runOf past
   run-past [] = refl
   run-past (b ∷ t) = go (p b) (run-past t)
     where
-      go : (c : Bool) → run p t ++ past p t ≡ t → cond c (b ∷ run p t) [] ++ cond c (past p t) (b ∷ t) ≡ b ∷ t
+      go : (c : Bool) → runOf p t ++ past p t ≡ t → cond c (b ∷ runOf p t) [] ++ cond c (past p t) (b ∷ t) ≡ b ∷ t
       go true e = ap (b ∷_) e
       go false e = refl
 
-  pub every-run : (t : List ℕ) → every p (run p t) ≡ true
-  unfolding run every
+  pub every-run : (t : List ℕ) → every p (runOf p t) ≡ true
+  unfolding runOf every
   every-run [] = refl
   every-run (b ∷ t) = go (p b) refl (every-run t)
     where
-      go : (c : Bool) → p b ≡ c → every p (run p t) ≡ true → every p (cond c (b ∷ run p t) []) ≡ true
+      go : (c : Bool) → p b ≡ c → every p (runOf p t) ≡ true → every p (cond c (b ∷ runOf p t) []) ≡ true
       go true e h = simp (e, h)
       go false e h = refl
 
@@ -69,13 +69,13 @@ module _ (p : ℕ → Bool) where
   past-on [] h = refl
   past-on (b ∷ t) h = simp h
 
-  pub run-stop : (t : List ℕ) → p (headOf t) ≡ false → run p t ≡ []
-  unfolding run headOf
+  pub run-stop : (t : List ℕ) → p (headOf t) ≡ false → runOf p t ≡ []
+  unfolding runOf headOf
   run-stop [] h = refl
   run-stop (b ∷ t) h = simp h
 
-  pub run-on : (t : List ℕ) → p 0 ≡ false → p (headOf t) ≡ true → run p t ≡ headOf t ∷ run p (tailOf t)
-  unfolding run headOf tailOf
+  pub run-on : (t : List ℕ) → p 0 ≡ false → p (headOf t) ≡ true → runOf p t ≡ headOf t ∷ runOf p (tailOf t)
+  unfolding runOf headOf tailOf
   run-on [] z h = absurd (let q : false ≡ true = sym z ∙ h in let n : _≡_ {A = ℕ} 0 1 = cc in omega arith)
   run-on (b ∷ t) z h = simp h
 
@@ -93,10 +93,10 @@ module _ (p : ℕ → Bool) where
   past-append [] t h = refl
   past-append (b ∷ a) t h = let k = both-true (p b) (every p a) h in rw (k .0, past) (past-append a t (k .1))
 
-  pub run-append : (a t : List ℕ) → every p a ≡ true → p (headOf t) ≡ false → run p (a ++ t) ≡ a
-  unfolding run every
+  pub run-append : (a t : List ℕ) → every p a ≡ true → p (headOf t) ≡ false → runOf p (a ++ t) ≡ a
+  unfolding runOf every
   run-append [] t h e = run-stop t e
-  run-append (b ∷ a) t h e = let k = both-true (p b) (every p a) h in rw (k .0, run) (ap (b ∷_) (run-append a t (k .1) e))
+  run-append (b ∷ a) t h e = let k = both-true (p b) (every p a) h in rw (k .0, runOf) (ap (b ∷_) (run-append a t (k .1) e))
 
 all-spaces : (n : ℕ) → every isSpace (spaces n) ≡ true
 unfolding every

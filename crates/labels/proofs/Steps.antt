@@ -9,7 +9,7 @@ use lib.Seq.{drop-drop}
 use lib.ListN.{length, drop, length-drop, length-append, List·getD-eq-default}
 use borrow.Author.Tests.{eq-eqb, ne-eqb, leb-true, leb-false}
 use Rattle.labels.specs.Bytes.{isPart, headOf, eqBytes, keyFrom, keyOf}
-use Rattle.labels.specs.Reading.{tailOf, run, past, nameAt, Passed}
+use Rattle.labels.specs.Reading.{tailOf, runOf, past, nameAt, Passed}
 use Rattle.labels.specs.Table.{nameFrom}
 use Rattle.labels.proofs.Spans.{head-drop, tail-drop, inside, past-stop, past-on, run-past, run-stop, run-on}
 
@@ -43,33 +43,33 @@ goes-on p s at n g z h =
     }
 
 -- ---- what is passed over, as a number of bytes
-drop-run : (p : ℕ → Bool) (t : List ℕ) → drop (length (run p t)) t ≡ past p t
-unfolding run past
+drop-run : (p : ℕ → Bool) (t : List ℕ) → drop (length (runOf p t)) t ≡ past p t
+unfolding runOf past
 drop-run p [] = refl
 drop-run p (b ∷ t) = go (p b) (drop-run p t)
   where
-    go : (c : Bool) → drop (length (run p t)) t ≡ past p t → drop (length (cond c (b ∷ run p t) [])) (b ∷ t) ≡ cond c (past p t) (b ∷ t)
+    go : (c : Bool) → drop (length (runOf p t)) t ≡ past p t → drop (length (cond c (b ∷ runOf p t) [])) (b ∷ t) ≡ cond c (past p t) (b ∷ t)
     go true e = e
     go false e = refl
 
 module _ (p : ℕ → Bool) (s : List ℕ) (at r : ℕ) where
-  in-all : length (run p (drop at s)) + length (past p (drop at s)) ≡ length s - at
-  in-all = sym (length-append (run p (drop at s)) (past p (drop at s))) ∙ ap length (run-past p (drop at s)) ∙ length-drop at s
+  in-all : length (runOf p (drop at s)) + length (past p (drop at s)) ≡ length s - at
+  in-all = sym (length-append (runOf p (drop at s)) (past p (drop at s))) ∙ ap length (run-past p (drop at s)) ∙ length-drop at s
 
-  pub passed-over : Passed p s at r → r ≡ at + length (run p (drop at s))
+  pub passed-over : Passed p s at r → r ≡ at + length (runOf p (drop at s))
   passed-over g = go (leb at (length s)) refl
     where
       left : length s - r ≡ length (past p (drop at s))
       left = sym (length-drop r s) ∙ ap length (g .rest)
 
-      go : (c : Bool) → leb at (length s) ≡ c → r ≡ at + length (run p (drop at s))
+      go : (c : Bool) → leb at (length s) ≡ c → r ≡ at + length (runOf p (drop at s))
       go true e = omega (arith, in-all, left, g .on, g .within (leb-true at (length s) e))
       go false e = let h = leb-false at (length s) e in omega (arith, in-all, g .beyond (omega arith))
 
-  pub passed : r ≡ at + length (run p (drop at s)) → Passed p s at r
+  pub passed : r ≡ at + length (runOf p (drop at s)) → Passed p s at r
   passed e =
       record {
-        rest = ap (λ (n : ℕ). drop n s) e ∙ sym (drop-drop (length (run p (drop at s))) at s) ∙ drop-run p (drop at s);
+        rest = ap (λ (n : ℕ). drop n s) e ∙ sym (drop-drop (length (runOf p (drop at s))) at s) ∙ drop-run p (drop at s);
         on = omega arith;
         within = λ h. omega (arith, in-all);
         beyond = λ h. omega (arith, in-all);
@@ -78,7 +78,7 @@ module _ (p : ℕ → Bool) (s : List ℕ) (at r : ℕ) where
 -- ---- a name that is read
 key-on : (s : List ℕ) (v n : ℕ) → isPart (headOf (drop n s)) ≡ true → keyFrom v (nameAt s n) ≡ keyFrom (v % 2 ^ 56 * 256 + headOf (drop n s)) (nameAt s (n + 1))
 unfolding keyFrom
-key-on s v n h = ap (keyFrom v) (run-on isPart (drop n s) refl h) ∙ ap (λ (t : List ℕ). keyFrom (v % 2 ^ 56 * 256 + headOf (drop n s)) (run isPart t)) (tail-drop s n)
+key-on s v n h = ap (keyFrom v) (run-on isPart (drop n s) refl h) ∙ ap (λ (t : List ℕ). keyFrom (v % 2 ^ 56 * 256 + headOf (drop n s)) (runOf isPart t)) (tail-drop s n)
 
 key-end : (s : List ℕ) (v n : ℕ) → isPart (headOf (drop n s)) ≡ false → keyFrom v (nameAt s n) ≡ v
 unfolding keyFrom
@@ -107,43 +107,43 @@ module _ (s : List ℕ) (at : ℕ) where
         cc (g .key ∙ key-end s v n i, passed-over isPart s at n (stops isPart s at n (g .to) i))
 
 -- ---- names that are compared; how long the second one is is known
-run-some : (p : ℕ → Bool) (t : List ℕ) → (length (run p t) ≡ 0 → ⊥) → p (headOf t) ≡ true
+run-some : (p : ℕ → Bool) (t : List ℕ) → (length (runOf p t) ≡ 0 → ⊥) → p (headOf t) ≡ true
 run-some p t n = go (p (headOf t)) refl
   where
     go : (c : Bool) → p (headOf t) ≡ c → c ≡ true
     go true e = refl
     go false e = absurd (n (ap length (run-stop p t e)))
 
-run-none : (p : ℕ → Bool) (t : List ℕ) → p 0 ≡ false → length (run p t) ≡ 0 → p (headOf t) ≡ false
+run-none : (p : ℕ → Bool) (t : List ℕ) → p 0 ≡ false → length (runOf p t) ≡ 0 → p (headOf t) ≡ false
 run-none p t z n = go (p (headOf t)) refl
   where
     go : (c : Bool) → p (headOf t) ≡ c → c ≡ false
     go true e = absurd (let l = sym n ∙ ap length (run-on p t z e) in omega arith)
     go false e = refl
 
-names-end : (s t : List ℕ) → isPart (headOf t) ≡ false → eqBytes (run isPart s) (run isPart t) ≡ not (isPart (headOf s))
+names-end : (s t : List ℕ) → isPart (headOf t) ≡ false → eqBytes (runOf isPart s) (runOf isPart t) ≡ not (isPart (headOf s))
 unfolding eqBytes
-names-end s t h = ap (eqBytes (run isPart s)) (run-stop isPart t h) ∙ go (isPart (headOf s)) refl
+names-end s t h = ap (eqBytes (runOf isPart s)) (run-stop isPart t h) ∙ go (isPart (headOf s)) refl
   where
-    go : (c : Bool) → isPart (headOf s) ≡ c → eqBytes (run isPart s) [] ≡ not c
+    go : (c : Bool) → isPart (headOf s) ≡ c → eqBytes (runOf isPart s) [] ≡ not c
     go true e = ap (λ (x : List ℕ). eqBytes x []) (run-on isPart s refl e)
     go false e = ap (λ (x : List ℕ). eqBytes x []) (run-stop isPart s e)
 
 module _ (s t : List ℕ) (h : isPart (headOf t) ≡ true) where
-  names-differ : (headOf s ≡ headOf t → ⊥) → eqBytes (run isPart s) (run isPart t) ≡ false
+  names-differ : (headOf s ≡ headOf t → ⊥) → eqBytes (runOf isPart s) (runOf isPart t) ≡ false
   unfolding eqBytes
-  names-differ n = ap (eqBytes (run isPart s)) (run-on isPart t refl h) ∙ go (isPart (headOf s)) refl
+  names-differ n = ap (eqBytes (runOf isPart s)) (run-on isPart t refl h) ∙ go (isPart (headOf s)) refl
     where
-      go : (c : Bool) → isPart (headOf s) ≡ c → eqBytes (run isPart s) (headOf t ∷ run isPart (tailOf t)) ≡ false
-      go true e = ap (λ (x : List ℕ). eqBytes x (headOf t ∷ run isPart (tailOf t))) (run-on isPart s refl e) ∙ ap (_&& eqBytes (run isPart (tailOf s)) (run isPart (tailOf t))) (ne-eqb (headOf s) (headOf t) n)
-      go false e = ap (λ (x : List ℕ). eqBytes x (headOf t ∷ run isPart (tailOf t))) (run-stop isPart s e)
+      go : (c : Bool) → isPart (headOf s) ≡ c → eqBytes (runOf isPart s) (headOf t ∷ runOf isPart (tailOf t)) ≡ false
+      go true e = ap (λ (x : List ℕ). eqBytes x (headOf t ∷ runOf isPart (tailOf t))) (run-on isPart s refl e) ∙ ap (_&& eqBytes (runOf isPart (tailOf s)) (runOf isPart (tailOf t))) (ne-eqb (headOf s) (headOf t) n)
+      go false e = ap (λ (x : List ℕ). eqBytes x (headOf t ∷ runOf isPart (tailOf t))) (run-stop isPart s e)
 
-  names-on : headOf s ≡ headOf t → eqBytes (run isPart s) (run isPart t) ≡ eqBytes (run isPart (tailOf s)) (run isPart (tailOf t))
+  names-on : headOf s ≡ headOf t → eqBytes (runOf isPart s) (runOf isPart t) ≡ eqBytes (runOf isPart (tailOf s)) (runOf isPart (tailOf t))
   unfolding eqBytes
   names-on e =
-      ap (λ (x : List ℕ). eqBytes x (run isPart t)) (run-on isPart s refl (ap isPart e ∙ h))
-      ∙ ap (eqBytes (headOf s ∷ run isPart (tailOf s))) (run-on isPart t refl h)
-      ∙ ap (_&& eqBytes (run isPart (tailOf s)) (run isPart (tailOf t))) (eq-eqb (headOf s) (headOf t) e)
+      ap (λ (x : List ℕ). eqBytes x (runOf isPart t)) (run-on isPart s refl (ap isPart e ∙ h))
+      ∙ ap (eqBytes (headOf s ∷ runOf isPart (tailOf s))) (run-on isPart t refl h)
+      ∙ ap (_&& eqBytes (runOf isPart (tailOf s)) (runOf isPart (tailOf t))) (eq-eqb (headOf s) (headOf t) e)
 
 pub record Compared (text : List ℕ) (p : ℕ) (s : List ℕ) (at after i j : ℕ) : Type 0 where
   pub rest : eqBytes (nameAt text p) (nameAt s at) ≡ eqBytes (nameAt text i) (nameAt s j)
@@ -174,5 +174,5 @@ module _ (text : List ℕ) (p : ℕ) (s : List ℕ) (at after i j : ℕ) (g : Co
       compared-on =
           record {
             rest = g .rest ∙ names-on (drop i text) (drop j s) second-on alike ∙ cc (tail-drop text i, tail-drop s j);
-            to = let l = ap length (run-on isPart (drop j s) refl second-on) ∙ ap (λ (t : List ℕ). suc (length (run isPart t))) (tail-drop s j) in omega (arith, l, g .to);
+            to = let l = ap length (run-on isPart (drop j s) refl second-on) ∙ ap (λ (t : List ℕ). suc (length (runOf isPart t))) (tail-drop s j) in omega (arith, l, g .to);
           }

@@ -10,7 +10,7 @@ use lib.Dec.{ltb}
 use lib.ListN.{length, getD, set, drop, replicate, length-set}
 use lib.Seq.{sets, length-sets, getD-set-same, getD-set-other}
 use Rattle.labels.specs.Bytes.{isLetter, isPart, every, headOf, eqBytes, keyFrom, keyOf}
-use Rattle.labels.specs.Reading.{tailOf, run, nameAt}
+use Rattle.labels.specs.Reading.{tailOf, runOf, nameAt}
 use Rattle.labels.specs.Table.{slotsOf, placeAt, keyAt, indexAt, searchIn, indexBy, indexIn}
 use Rattle.labels.specs.declared.table.Slot.{Slot}
 use Rattle.labels.specs.declared.table.Slot.the-variants.{Held, Free, Full}
@@ -31,8 +31,8 @@ unfolding keyFrom every
 named-key s at h z =
     let p = or-true (isLetter (headOf (drop at s))) _ h in
     let r = run-on isPart (drop at s) refl p in
-    let k = both-true (isPart (headOf (drop at s))) (every isPart (run isPart (tailOf (drop at s)))) (ap (every isPart) (sym r) ∙ every-run isPart (drop at s)) in
-    let g = key-grows (0 % 2 ^ 56 * 256 + headOf (drop at s)) (run isPart (tailOf (drop at s))) (let b = part-bounds (headOf (drop at s)) p in omega arith) (k .1) in
+    let k = both-true (isPart (headOf (drop at s))) (every isPart (runOf isPart (tailOf (drop at s)))) (ap (every isPart) (sym r) ∙ every-run isPart (drop at s)) in
+    let g = key-grows (0 % 2 ^ 56 * 256 + headOf (drop at s)) (runOf isPart (tailOf (drop at s))) (let b = part-bounds (headOf (drop at s)) p in omega arith) (k .1) in
     let e = sym (ap keyOf r) ∙ z in
     omega arith
 

@@ -11,9 +11,9 @@ tailOf [] = []
 tailOf (b ∷ t) = t
 
 -- the bytes of a class at the start of a text, and the text after them
-unfoldable pub run : (ℕ → Bool) → List ℕ → List ℕ
-run p [] = []
-run p (b ∷ t) = cond (p b) (b ∷ run p t) []
+unfoldable pub runOf : (ℕ → Bool) → List ℕ → List ℕ
+runOf p [] = []
+runOf p (b ∷ t) = cond (p b) (b ∷ runOf p t) []
 
 unfoldable pub past : (ℕ → Bool) → List ℕ → List ℕ
 past p [] = []
@@ -23,7 +23,7 @@ abbrev pub skip : List ℕ → List ℕ
 skip t = past isSpace t
 
 abbrev pub nameAt : List ℕ → ℕ → List ℕ
-nameAt s at = run isPart (drop at s)
+nameAt s at = runOf isPart (drop at s)
 
 -- from `at`, the bytes of a class end at r; beyond the end, at once
 pub record Passed (p : ℕ → Bool) (s : List ℕ) (at r : ℕ) : Type 0 where

@@ -45,13 +45,13 @@ homeOf key slots = cond (ltb slots (2 ^ 32)) (spreadOf key * slots / 2 ^ 32) (sp
 abbrev pub nextOf : ℕ → ℕ → ℕ
 nextOf slots k = cond (eqb (k + 1) slots) 0 (k + 1)
 
-abbrev pub holds : List ℕ → List ℕ → List ℕ → ℕ → Bool
-holds text table name k = eqb (keyAt table k) (keyOf name) && eqBytes (nameAt text (placeAt table k)) name
+abbrev pub holdsName : List ℕ → List ℕ → List ℕ → ℕ → Bool
+holdsName text table name k = eqb (keyAt table k) (keyOf name) && eqBytes (nameAt text (placeAt table k)) name
 
 unfoldable pub searchFrom : List ℕ → List ℕ → List ℕ → ℕ → ℕ → Slot
 searchFrom text table name zero k = Full
 searchFrom text table name (suc left) k =
-    cond (eqb (keyAt table k) 0) (Free k) (cond (holds text table name k) (Held k) (searchFrom text table name left (nextOf (slotsOf table) k)))
+    cond (eqb (keyAt table k) 0) (Free k) (cond (holdsName text table name k) (Held k) (searchFrom text table name left (nextOf (slotsOf table) k)))
 
 unfoldable pub searchIn : List ℕ → List ℕ → List ℕ → Slot
 searchIn text table name = searchFrom text table name (slotsOf table) (homeOf (keyOf name) (slotsOf table))

@@ -3,7 +3,7 @@ ghost use mathlib.Core.Path.{_≡_};
 ghost use Prim.Native.Nat.{_+_};
 ghost use lib.ListN.{length, drop};
 ghost use Rattle.labels.specs.Bytes.{isSpace, isDigit, isLetter, isPart, headOf};
-ghost use Rattle.labels.specs.Reading.{run};
+ghost use Rattle.labels.specs.Reading.{runOf};
 
 // The byte at a place, or 0 past the end.
 pub fn byte(s: &[u8], at: usize) -> u8
@@ -35,7 +35,7 @@ pub(crate) fn part(c: u8) -> bool
 
 // The place after the spaces at a place.
 pub fn skip(s: &[u8], at: usize) -> usize
-    ensures { λ r. ⌜ r ≡ at + length (run isSpace (drop at (now (s .entry)))) ⌝ }
+    ensures { λ r. ⌜ r ≡ at + length (runOf isSpace (drop at (now (s .entry)))) ⌝ }
 {
     let mut n = at;
     loop {

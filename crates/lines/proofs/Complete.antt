@@ -20,12 +20,12 @@ use Rattle.names.specs.Names.{registerText, nameOf, nameKey}
 use Rattle.names.proofs.Fifty.{found}
 use Rattle.labels.specs.Bytes.{isSpace, isDigit, isLetter, isPart, every, isName, isNumber, spaces, headOf, keyOf}
 use Rattle.sums.specs.Sums.{Term, number as numeral, label, group, unsigned, plus, minus, termText, restText}
-use Rattle.labels.specs.Reading.{tailOf, run, past, skip}
+use Rattle.labels.specs.Reading.{tailOf, runOf, past, skip}
 use Rattle.sums.specs.Reader.{Got, got, bad, given, onto}
 use Rattle.labels.proofs.Spans.{both-true, past-stop, past-append, run-append, skip-spaces}
 use Rattle.sums.proofs.Complete.{Ends, complete, space-apart}
 use Rattle.labels.proofs.Classes.{or-true, or-false, digit-low, digit-high, letter-low}
-use Rattle.lines.specs.Lines.{Kind, kindsOf, Operand, reg, sum, Operands, without, last, more, Line, blank, defines, instruction, operandText, operandsText, argumentsText, lineText, operandValue, push, operandsValues, wordOf, empty, named, wrong, toldBy, lineTold}
+use Rattle.lines.specs.Lines.{Kind, kindsOf, Operand, reg, sum, Operands, without, last, more, Line, blank, defines, instruction, operandText, operandsText, argumentsText, lineText, operandValue, pushed, operandsValues, wordFor, empty, named, wrong, saidWord, lineSaying}
 use Rattle.lines.specs.Reader.{registerRead, operandRead, nothing, with, operandsRead, instructionRead, wordRead, lineRead}
 
 pub skip-all : (n : ℕ) → skip (spaces n) ≡ []
@@ -106,7 +106,7 @@ register-law r t h d = go (ltb r 10) refl
     go true e = register-one r t (ltb-true r 10 e) d
     go false e = register-two r t (ltb-false r 10 e) (ltb-true r 16 h)
 
-some-given : (o : Option ℤ) (t : List ℕ) (go : ℤ → List ℕ → Option (List ℤ)) (rest : Option (List ℤ)) → ((v : ℤ) → go v t ≡ push (some v) rest) → with (given o t) go ≡ push o rest
+some-given : (o : Option ℤ) (t : List ℕ) (go : ℤ → List ℕ → Option (List ℤ)) (rest : Option (List ℤ)) → ((v : ℤ) → go v t ≡ pushed (some v) rest) → with (given o t) go ≡ pushed o rest
 some-given none t go rest h = refl
 some-given (some v) t go rest h = h v
 
@@ -158,8 +158,8 @@ module _ (look : List ℕ → Option ℤ) where
       let reads : operandRead k look (skip (operandsText (more g o h os) ++ spaces n)) ≡ given (operandValue o look) (44 ∷ U) =
       ap (λ (u : List ℕ). operandRead k look (skip u)) whole ∙ ap (operandRead k look) (skip-spaces g (operandText o ++ Y) ∙ skip-operand o Y)
       ∙ operand-law o look Y (ends-comma h U) ∙ ap (given (operandValue o look)) (skip-spaces h (44 ∷ U)) in
-      ap (λ (x : Got). with x (λ v u. cond (eqb (headOf u) 44) (push (some v) (operandsRead (j ∷ ks) look (tailOf u))) none)) reads
-      ∙ some-given (operandValue o look) (44 ∷ U) (λ v u. cond (eqb (headOf u) 44) (push (some v) (operandsRead (j ∷ ks) look (tailOf u))) none) (operandsValues os look) (λ v. ap (push (some v)) ih)
+      ap (λ (x : Got). with x (λ v u. cond (eqb (headOf u) 44) (pushed (some v) (operandsRead (j ∷ ks) look (tailOf u))) none)) reads
+      ∙ some-given (operandValue o look) (44 ∷ U) (λ v u. cond (eqb (headOf u) 44) (pushed (some v) (operandsRead (j ∷ ks) look (tailOf u))) none) (operandsValues os look) (λ v. ap (pushed (some v)) ih)
 
   operands-law : {ks : List Kind} (os : Operands ks) (n : ℕ) → operandsRead ks look (operandsText os ++ spaces n) ≡ operandsValues os look
   unfolding operandsRead operandsText operandsValues
@@ -220,7 +220,7 @@ module _ (look : Form → List ℕ → Option ℤ) where
   parts-of (b ∷ name) h = let k = both-true (isLetter b) (every isPart name) h in rw (or-true (isLetter b) (isDigit b) (k .0)) (k .1)
 
   module _ (name t : List ℕ) (h : isName name ≡ true) (a : isPart (headOf t) ≡ false) where
-    runs : run isPart (name ++ t) ≡ name
+    runs : runOf isPart (name ++ t) ≡ name
     runs = run-append isPart name t (parts-of name h) a
 
     passes : past isPart (name ++ t) ≡ t
@@ -233,11 +233,11 @@ module _ (look : Form → List ℕ → Option ℤ) where
       let a : isPart (headOf t) ≡ false = unfold headOf in space-apart h (58 ∷ spaces k) refl in
       let colon : skip (past isPart (name ++ t)) ≡ 58 ∷ spaces k = ap skip (passes name t n a) ∙ skip-spaces h (58 ∷ spaces k) in
       starts g name t n
-      ∙ ap (λ (u : List ℕ). cond (eqb (headOf u) 58) (cond (nothing (skip (tailOf u))) (named (run isPart (name ++ t))) wrong) (instructionRead (opcodeIn nameKey (keyOf (run isPart (name ++ t)))) look (past isPart (name ++ t)))) colon
-      ∙ ap (λ (u : List ℕ). cond (nothing u) (named (run isPart (name ++ t))) wrong) (skip-all k)
+      ∙ ap (λ (u : List ℕ). cond (eqb (headOf u) 58) (cond (nothing (skip (tailOf u))) (named (runOf isPart (name ++ t))) wrong) (instructionRead (opcodeIn nameKey (keyOf (runOf isPart (name ++ t)))) look (past isPart (name ++ t)))) colon
+      ∙ ap (λ (u : List ℕ). cond (nothing u) (named (runOf isPart (name ++ t))) wrong) (skip-all k)
       ∙ ap named (runs name t n a)
 
-  instruction-law : (g : ℕ) (op : Opcode) (os : Operands (kindsOf (formOf op))) (h : ℕ) → lineRead look (lineText (instruction g op os h)) ≡ toldBy (wordOf op (operandsValues os (look (formOf op))))
+  instruction-law : (g : ℕ) (op : Opcode) (os : Operands (kindsOf (formOf op))) (h : ℕ) → lineRead look (lineText (instruction g op os h)) ≡ saidWord (wordFor op (operandsValues os (look (formOf op))))
   unfolding lineText wordRead
   instruction-law g op os h =
       let t : List ℕ = argumentsText os ++ spaces h in
@@ -246,12 +246,12 @@ module _ (look : Form → List ℕ → Option ℤ) where
       let p = passes (nameOf op) t n a in
       let colon : eqb (headOf (skip (past isPart (nameOf op ++ t)))) 58 ≡ false = ap (λ (u : List ℕ). eqb (headOf (skip u)) 58) p ∙ no-colon os h in
       starts g (nameOf op) t n
-      ∙ ap (λ (x : Bool). cond x (cond (nothing (skip (tailOf (skip (past isPart (nameOf op ++ t)))))) (named (run isPart (nameOf op ++ t))) wrong) (instructionRead (opcodeIn nameKey (keyOf (run isPart (nameOf op ++ t)))) look (past isPart (nameOf op ++ t)))) colon
+      ∙ ap (λ (x : Bool). cond x (cond (nothing (skip (tailOf (skip (past isPart (nameOf op ++ t)))))) (named (runOf isPart (nameOf op ++ t))) wrong) (instructionRead (opcodeIn nameKey (keyOf (runOf isPart (nameOf op ++ t)))) look (past isPart (nameOf op ++ t)))) colon
       ∙ ap (λ (f : Found). instructionRead f look (past isPart (nameOf op ++ t))) (ap (λ (u : List ℕ). opcodeIn nameKey (keyOf u)) (runs (nameOf op) t n a) ∙ found op)
-      ∙ ap (λ (vs : Option (List ℤ)). toldBy (wordOf op vs)) (ap (operandsRead (kindsOf (formOf op)) (look (formOf op))) p ∙ arguments-law (look (formOf op)) os h)
+      ∙ ap (λ (vs : Option (List ℤ)). saidWord (wordFor op vs)) (ap (operandsRead (kindsOf (formOf op)) (look (formOf op))) p ∙ arguments-law (look (formOf op)) os h)
 
-  pub line-complete : (l : Line) → lineRead look (lineText l) ≡ lineTold l look
-  unfolding lineTold
+  pub line-complete : (l : Line) → lineRead look (lineText l) ≡ lineSaying l look
+  unfolding lineSaying
   line-complete (blank g) = unfold lineRead lineText in ap (λ (u : List ℕ). cond (nothing u) empty (cond (isLetter (headOf u)) (wordRead look u) wrong)) (skip-all g)
   line-complete (defines g name n h k) = defines-law g name n h k
   line-complete (instruction g op os h) = instruction-law g op os h

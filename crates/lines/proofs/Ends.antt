@@ -9,7 +9,7 @@ use lib.Dec.{eqb}
 use lib.ListN.{length, getD, drop}
 use borrow.Author.Tests.{eqb-true}
 use Rattle.labels.specs.Bytes.{isSpace, isLetter, every, headOf, keyOf}
-use Rattle.labels.specs.Reading.{tailOf, run, past, skip, nameAt}
+use Rattle.labels.specs.Reading.{tailOf, runOf, past, skip, nameAt}
 use Rattle.labels.proofs.Spans.{both-true, inside}
 use Rattle.labels.proofs.Classes.{or-true}
 use Rattle.labels.proofs.Steps.{passed}
@@ -46,13 +46,13 @@ Ended s Start.Other = Unit {0}
 
 module _ (s : List ℕ) where
   at : ℕ
-  at = length (run isSpace s)
+  at = length (runOf isSpace s)
 
   e : ℕ
   e = at + length (nameAt s at)
 
   n : ℕ
-  n = e + length (run isSpace (drop e s))
+  n = e + length (runOf isSpace (drop e s))
 
   to : drop n s ≡ skip (drop e s)
   unfolding n

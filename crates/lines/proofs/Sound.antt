@@ -21,12 +21,12 @@ use Rattle.opcode.proofs.Variants.{place, all-at}
 use Rattle.opcode.proofs.Numberings.{number-found}
 use Rattle.names.specs.Names.{registerText, nameOf, nameKey}
 use Rattle.labels.specs.Bytes.{isSpace, isDigit, isLetter, isPart, spaces, headOf, keyOf}
-use Rattle.labels.specs.Reading.{tailOf, run, past, skip}
+use Rattle.labels.specs.Reading.{tailOf, runOf, past, skip}
 use Rattle.sums.specs.Reader.{Got, got, bad}
 use Rattle.labels.proofs.Spans.{both-true, run-past, every-run, past-head}
 use Rattle.labels.proofs.Classes.{digit-low, digit-high}
 use Rattle.sums.proofs.Sound.{sound, bad-got, cons-is, skipped, is-name, onto-got}
-use Rattle.lines.specs.Lines.{Kind, register, immediate, kindsOf, Operand, reg, sum, Operands, without, last, more, Line, blank, defines, instruction, operandText, operandsText, argumentsText, lineText, operandValue, push, operandsValues, wordOf, Told, empty, named, wrong, toldBy, lineTold}
+use Rattle.lines.specs.Lines.{Kind, register, immediate, kindsOf, Operand, reg, sum, Operands, without, last, more, Line, blank, defines, instruction, operandText, operandsText, argumentsText, lineText, operandValue, pushed, operandsValues, wordFor, Saying, empty, named, wrong, saidWord, lineSaying}
 use Rattle.lines.specs.Reader.{isTeen, registerRead, operandRead, nothing, with, operandsRead, instructionRead, wordRead, lineRead}
 use Rattle.lines.proofs.Complete.{append-none, name-is, parts-of}
 use Rattle.lines.proofs.Names.{turned, one-key}
@@ -104,14 +104,14 @@ module _ (look : List ℕ → Option ℤ) where
       let e = k .1 .2 in
       let same : k .0 ≡ v = cc in
       let rest : skip (k .1 .0) ≡ u = cc in
-      (reg (r .0) (r .1), (length (run isSpace (k .1 .0)), r .2 ∙ ap (registerText (r .0) ++_) (skipped (k .1 .0) ∙ ap (spaces (length (run isSpace (k .1 .0))) ++_) rest), ap some (r .3 ∙ same)))
+      (reg (r .0) (r .1), (length (runOf isSpace (k .1 .0)), r .2 ∙ ap (registerText (r .0) ++_) (skipped (k .1 .0) ∙ ap (spaces (length (runOf isSpace (k .1 .0))) ++_) rest), ap some (r .3 ∙ same)))
   operand-sound immediate t v u h = let k = sound look 16 t v u h in (sum (k .0), (k .1 .0, k .1 .1, k .1 .2))
 
   with-some : (x : Got) (go : ℤ → List ℕ → Option (List ℤ)) (vs : List ℤ) → with x go ≡ some vs → (v : ℤ) × ((u : List ℕ) × (x ≡ got v u) × (go v u ≡ some vs))
   with-some bad go vs h = none-some h
   with-some (got v u) go vs h = (v, (u, refl, h))
 
-  push-some : (v : ℤ) (o : Option (List ℤ)) (vs : List ℤ) → push (some v) o ≡ some vs → (ws : List ℤ) × (o ≡ some ws) × (vs ≡ v ∷ ws)
+  push-some : (v : ℤ) (o : Option (List ℤ)) (vs : List ℤ) → pushed (some v) o ≡ some vs → (ws : List ℤ) × (o ≡ some ws) × (vs ≡ v ∷ ws)
   push-some v none vs h = none-some h
   push-some v (some ws) vs h = (ws, refl, cc)
 
@@ -126,31 +126,31 @@ module _ (look : List ℕ → Option ℤ) where
   unfolding operandsRead OperandsSound OperandSound operandsText operandsValues
   operands-sound [] t vs h =
       let k = cond-some (nothing (skip t)) (some []) vs h in
-      (without, (length (run isSpace t), skipped t ∙ ap (spaces (length (run isSpace t)) ++_) (is-nothing (skip t) (k .0)) ∙ append-none (spaces (length (run isSpace t))), k .1))
+      (without, (length (runOf isSpace t), skipped t ∙ ap (spaces (length (runOf isSpace t)) ++_) (is-nothing (skip t) (k .0)) ∙ append-none (spaces (length (runOf isSpace t))), k .1))
   operands-sound (k ∷ []) t vs h =
       let x = with-some (operandRead k look (skip t)) (λ v u. cond (nothing u) (some (v ∷ [])) none) vs h in
       let c = cond-some (nothing (x .1 .0)) (some (x .0 ∷ [])) vs (x .1 .2) in
       let o = operand-sound k (skip t) (x .0) (x .1 .0) (x .1 .1) in
-      let g : ℕ = length (run isSpace t) in (
+      let g : ℕ = length (runOf isSpace t) in (
         last g (o .0) (o .1 .0),
         (
           0,
           skipped t ∙ ap (spaces g ++_) (o .1 .1 ∙ ap (λ (u : List ℕ). operandText (o .0) ++ (spaces (o .1 .0) ++ u)) (is-nothing (x .1 .0) (c .0))) ∙ simp append-assoc,
-          ap (λ (w : Option ℤ). push w (some [])) (o .1 .2) ∙ c .1,
+          ap (λ (w : Option ℤ). pushed w (some [])) (o .1 .2) ∙ c .1,
         ),
       )
   operands-sound (k ∷ (j ∷ ks)) t vs h =
-      let x = with-some (operandRead k look (skip t)) (λ v u. cond (eqb (headOf u) 44) (push (some v) (operandsRead (j ∷ ks) look (tailOf u))) none) vs h in
-      let c = cond-some (eqb (headOf (x .1 .0)) 44) (push (some (x .0)) (operandsRead (j ∷ ks) look (tailOf (x .1 .0)))) vs (x .1 .2) in
+      let x = with-some (operandRead k look (skip t)) (λ v u. cond (eqb (headOf u) 44) (pushed (some v) (operandsRead (j ∷ ks) look (tailOf u))) none) vs h in
+      let c = cond-some (eqb (headOf (x .1 .0)) 44) (pushed (some (x .0)) (operandsRead (j ∷ ks) look (tailOf (x .1 .0)))) vs (x .1 .2) in
       let p = push-some (x .0) (operandsRead (j ∷ ks) look (tailOf (x .1 .0))) vs (c .1) in
       let rest = operands-sound (j ∷ ks) (tailOf (x .1 .0)) (p .0) (p .1) in
       let o = operand-sound k (skip t) (x .0) (x .1 .0) (x .1 .1) in
-      let g : ℕ = length (run isSpace t) in (
+      let g : ℕ = length (runOf isSpace t) in (
         more g (o .0) (o .1 .0) (rest .0),
         (
           rest .1 .0,
           skipped t ∙ ap (spaces g ++_) (o .1 .1 ∙ ap (λ (u : List ℕ). operandText (o .0) ++ (spaces (o .1 .0) ++ u)) (cons-is (x .1 .0) 44 (eqb-true (headOf (x .1 .0)) 44 (c .0)) (λ z. omega arith) ∙ ap (44 ∷_) (rest .1 .1))) ∙ simp append-assoc,
-          ap (λ (w : Option ℤ). push w (operandsValues (rest .0) look)) (o .1 .2) ∙ ap (push (some (x .0))) (rest .1 .2) ∙ ap some (sym (p .2)),
+          ap (λ (w : Option ℤ). pushed w (operandsValues (rest .0) look)) (o .1 .2) ∙ ap (pushed (some (x .0))) (rest .1 .2) ∙ ap some (sym (p .2)),
         ),
       )
 
@@ -183,56 +183,56 @@ name-short op = leb-true (length (turned (nameOf op) [])) 7 (everywhere all O.Ad
 
 -- ---- a line
 module _ (look : Form → List ℕ → Option ℤ) where
-  LineSound : List ℕ → Told → Type 0
-  LineSound t x = (l : Line) × (t ≡ lineText l) × (lineTold l look ≡ x)
+  LineSound : List ℕ → Saying → Type 0
+  LineSound t x = (l : Line) × (t ≡ lineText l) × (lineSaying l look ≡ x)
 
-  refused : {A : Type 0} (x : Told) → wrong ≡ x → (x ≡ wrong → ⊥) → A
+  refused : {A : Type 0} (x : Saying) → wrong ≡ x → (x ≡ wrong → ⊥) → A
   refused x e n = absurd (n (sym e))
 
-  told-word : (op : Opcode) (o : Option (List ℤ)) (x : Told) → toldBy (wordOf op o) ≡ x → (x ≡ wrong → ⊥) → (vs : List ℤ) × (o ≡ some vs)
-  unfolding wordOf
+  told-word : (op : Opcode) (o : Option (List ℤ)) (x : Saying) → saidWord (wordFor op o) ≡ x → (x ≡ wrong → ⊥) → (vs : List ℤ) × (o ≡ some vs)
+  unfolding wordFor
   told-word op none x e n = refused x e n
   told-word op (some vs) x e n = (vs, refl)
 
-  op-sound : (g : ℕ) (t : List ℕ) (f : Found) (x : Told) → opcodeIn nameKey (keyOf (run isPart t)) ≡ f → instructionRead f look (past isPart t) ≡ x → (x ≡ wrong → ⊥) → LineSound (spaces g ++ t) x
-  unfolding LineSound lineText lineTold ArgumentsSound
+  op-sound : (g : ℕ) (t : List ℕ) (f : Found) (x : Saying) → opcodeIn nameKey (keyOf (runOf isPart t)) ≡ f → instructionRead f look (past isPart t) ≡ x → (x ≡ wrong → ⊥) → LineSound (spaces g ++ t) x
+  unfolding LineSound lineText lineSaying ArgumentsSound
   op-sound g t Nothing x e h n = refused x h n
   op-sound g t (Op op) x e h n =
       let k = told-word op (operandsRead (kindsOf (formOf op)) (look (formOf op)) (past isPart t)) x h n in
       let a = arguments-sound (look (formOf op)) (formOf op) (past isPart t) (k .0) (past-head isPart t refl) (k .1) in
-      let name : run isPart t ≡ nameOf op = one-key (run isPart t) (nameOf op) (every-run isPart t) (parts-of look (nameOf op) (name-is op)) (name-short op) (sym (number-found nameKey all (keyOf (run isPart t)) op e)) in (
+      let name : runOf isPart t ≡ nameOf op = one-key (runOf isPart t) (nameOf op) (every-run isPart t) (parts-of look (nameOf op) (name-is op)) (name-short op) (sym (number-found nameKey all (keyOf (runOf isPart t)) op e)) in (
         instruction g op (a .0) (a .1 .0),
         ap (spaces g ++_) (sym (run-past isPart t) ∙ ap (λ (u : List ℕ). u ++ past isPart t) name ∙ ap (nameOf op ++_) (a .1 .1)),
-        ap (λ (o : Option (List ℤ)). toldBy (wordOf op o)) (a .1 .2 ∙ sym (k .1)) ∙ h,
+        ap (λ (o : Option (List ℤ)). saidWord (wordFor op o)) (a .1 .2 ∙ sym (k .1)) ∙ h,
       )
 
-  word-sound : (g : ℕ) (t : List ℕ) (x : Told) → isLetter (headOf t) ≡ true → wordRead look t ≡ x → (x ≡ wrong → ⊥) → LineSound (spaces g ++ t) x
-  unfolding wordRead LineSound lineText lineTold
+  word-sound : (g : ℕ) (t : List ℕ) (x : Saying) → isLetter (headOf t) ≡ true → wordRead look t ≡ x → (x ≡ wrong → ⊥) → LineSound (spaces g ++ t) x
+  unfolding wordRead LineSound lineText lineSaying
   word-sound g t x l h n = go (eqb (headOf (skip (past isPart t))) 58) refl h
     where
-      colon : (c : Bool) → nothing (skip (tailOf (skip (past isPart t)))) ≡ c → headOf (skip (past isPart t)) ≡ 58 → cond c (named (run isPart t)) wrong ≡ x → LineSound (spaces g ++ t) x
+      colon : (c : Bool) → nothing (skip (tailOf (skip (past isPart t)))) ≡ c → headOf (skip (past isPart t)) ≡ 58 → cond c (named (runOf isPart t)) wrong ≡ x → LineSound (spaces g ++ t) x
       colon false e p h = refused x h n
       colon true e p h =
           let u : List ℕ = past isPart t in
-          let i : ℕ = length (run isSpace u) in
-          let j : ℕ = length (run isSpace (tailOf (skip u))) in (
-            defines g (run isPart t) (is-name (look R) 0 t l) i j,
-            ap (spaces g ++_) (sym (run-past isPart t) ∙ ap (run isPart t ++_) (skipped u ∙ ap (spaces i ++_) (cons-is (skip u) 58 p (λ z. omega arith) ∙ ap (58 ∷_) (skipped (tailOf (skip u)) ∙ ap (spaces j ++_) (is-nothing (skip (tailOf (skip u))) e) ∙ append-none (spaces j))))),
+          let i : ℕ = length (runOf isSpace u) in
+          let j : ℕ = length (runOf isSpace (tailOf (skip u))) in (
+            defines g (runOf isPart t) (is-name (look R) 0 t l) i j,
+            ap (spaces g ++_) (sym (run-past isPart t) ∙ ap (runOf isPart t ++_) (skipped u ∙ ap (spaces i ++_) (cons-is (skip u) 58 p (λ z. omega arith) ∙ ap (58 ∷_) (skipped (tailOf (skip u)) ∙ ap (spaces j ++_) (is-nothing (skip (tailOf (skip u))) e) ∙ append-none (spaces j))))),
             h,
           )
 
       go : (c : Bool) → eqb (headOf (skip (past isPart t))) 58 ≡ c
-          → cond c (cond (nothing (skip (tailOf (skip (past isPart t))))) (named (run isPart t)) wrong) (instructionRead (opcodeIn nameKey (keyOf (run isPart t))) look (past isPart t)) ≡ x → LineSound (spaces g ++ t) x
+          → cond c (cond (nothing (skip (tailOf (skip (past isPart t))))) (named (runOf isPart t)) wrong) (instructionRead (opcodeIn nameKey (keyOf (runOf isPart t))) look (past isPart t)) ≡ x → LineSound (spaces g ++ t) x
       go true e h = colon (nothing (skip (tailOf (skip (past isPart t))))) refl (eqb-true (headOf (skip (past isPart t))) 58 e) h
-      go false e h = op-sound g t (opcodeIn nameKey (keyOf (run isPart t))) x refl h n
+      go false e h = op-sound g t (opcodeIn nameKey (keyOf (runOf isPart t))) x refl h n
 
   -- whatever is read, but for a bad line, is what a line with that text says
-  pub line-sound : (t : List ℕ) (x : Told) → lineRead look t ≡ x → (x ≡ wrong → ⊥) → (l : Line) × (t ≡ lineText l) × (lineTold l look ≡ x)
-  unfolding lineRead LineSound lineText lineTold
+  pub line-sound : (t : List ℕ) (x : Saying) → lineRead look t ≡ x → (x ≡ wrong → ⊥) → (l : Line) × (t ≡ lineText l) × (lineSaying l look ≡ x)
+  unfolding lineRead LineSound lineText lineSaying
   line-sound t x h n = go (nothing (skip t)) refl h
     where
       g : ℕ
-      g = length (run isSpace t)
+      g = length (runOf isSpace t)
 
       by : (c : Bool) → isLetter (headOf (skip t)) ≡ c → cond c (wordRead look (skip t)) wrong ≡ x → LineSound t x
       by true e h = subst (λ (u : List ℕ). LineSound u x) (sym (skipped t)) (word-sound g (skip t) x e h n)

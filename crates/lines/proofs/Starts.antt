@@ -15,10 +15,10 @@ use Rattle.opcode.specs.declared.Found.{Found}
 use Rattle.opcode.specs.declared.Found.the-variants.{Op, Nothing}
 use Rattle.names.specs.Names.{nameKey}
 use Rattle.labels.specs.Bytes.{isSpace, isLetter, isPart, headOf, keyOf}
-use Rattle.labels.specs.Reading.{tailOf, run, past, skip, nameAt, Passed}
+use Rattle.labels.specs.Reading.{tailOf, runOf, past, skip, nameAt, Passed}
 use Rattle.labels.proofs.Spans.{tail-drop, past-stop, past-head}
 use Rattle.labels.proofs.Steps.{passed}
-use Rattle.lines.specs.Lines.{Kind, kindsOf, wordOf, Told, empty, named, word, wrong, toldBy}
+use Rattle.lines.specs.Lines.{Kind, kindsOf, wordFor, Saying, empty, named, word, wrong, saidWord}
 use Rattle.lines.specs.Reader.{nothing, operandsRead, instructionRead, wordRead, lineRead}
 use Rattle.lines.specs.Code.{wordSaid, saidBy, saidOf, namedAt, startAt, startOf}
 use Rattle.lines.specs.declared.Said.{Said}
@@ -33,7 +33,7 @@ Look = Form → List ℕ → Option ℤ
 -- what a line that begins so is read as, whatever the labels mean
 abbrev pub Started : List ℕ → Start → Type 0
 Started s Start.Blank = (look : Look) → lineRead look s ≡ empty
-Started s (Start.Label at) = ((look : Look) → lineRead look s ≡ named (nameAt s at)) × ((nameAt s at ≡ run isPart (skip s)) × ((isLetter (headOf (drop at s)) ≡ true) × (headOf (skip (past isPart (drop at s))) ≡ 58)))
+Started s (Start.Label at) = ((look : Look) → lineRead look s ≡ named (nameAt s at)) × ((nameAt s at ≡ runOf isPart (skip s)) × ((isLetter (headOf (drop at s)) ≡ true) × (headOf (skip (past isPart (drop at s))) ≡ 58)))
 Started s (Start.Word key n) = (look : Look) → lineRead look s ≡ instructionRead (opcodeIn nameKey key) look (drop n s)
 Started s Start.Other = (look : Look) → lineRead look s ≡ wrong
 
@@ -51,32 +51,32 @@ operands-from ks look t = go ks
     go (k ∷ (j ∷ ks)) = rw twice
 
 instruction-from : (f : Found) (look : Look) (t : List ℕ) → instructionRead f look (skip t) ≡ instructionRead f look t
-instruction-from (Op op) look t = ap (λ (o : Option (List ℤ)). toldBy (wordOf op o)) (operands-from (kindsOf (formOf op)) (look (formOf op)) t)
+instruction-from (Op op) look t = ap (λ (o : Option (List ℤ)). saidWord (wordFor op o)) (operands-from (kindsOf (formOf op)) (look (formOf op)) t)
 instruction-from Nothing look t = refl
 
 module _ (s : List ℕ) where
   at : ℕ
-  at = length (run isSpace s)
+  at = length (runOf isSpace s)
 
   e : ℕ
   e = at + length (nameAt s at)
 
   spaces-end : Passed isSpace s 0 at
   unfolding at
-  spaces-end = passed isSpace s 0 at (sym (zero-add (length (run isSpace s))))
+  spaces-end = passed isSpace s 0 at (sym (zero-add (length (runOf isSpace s))))
 
   name-end : Passed isPart s at e
   unfolding e
   name-end = passed isPart s at e refl
 
   next : ℕ
-  next = e + length (run isSpace (drop e s))
+  next = e + length (runOf isSpace (drop e s))
 
   there : drop next s ≡ skip (drop e s)
   unfolding next
   there = passed isSpace s e next refl .rest
 
-  Read : Look → Bool → Bool → Bool → Bool → Told
+  Read : Look → Bool → Bool → Bool → Bool → Saying
   Read look a b c d = cond a empty (cond b (cond c (cond d (named (nameAt s at)) wrong) (instructionRead (opcodeIn nameKey (keyOf (nameAt s at))) look (drop next s))) wrong)
 
   read-is : (look : Look) → lineRead look s
@@ -93,7 +93,7 @@ module _ (s : List ℕ) where
       go : (a b c d : Bool) → isLetter (headOf (drop at s)) ≡ b → eqb (headOf (skip (drop e s))) 58 ≡ c → ((look : Look) → lineRead look s ≡ Read look a b c d)
           → Started s (cond a Start.Blank (cond b (cond c (cond d (Start.Label at) Start.Other) (Start.Word (keyOf (nameAt s at)) next)) Start.Other))
       go true b c d l n h = h
-      go false true true true l n h = (h, (ap (run isPart) (spaces-end .rest), (l, ap (λ (u : List ℕ). headOf (skip u)) (sym (name-end .rest)) ∙ eqb-true _ _ n)))
+      go false true true true l n h = (h, (ap (runOf isPart) (spaces-end .rest), (l, ap (λ (u : List ℕ). headOf (skip u)) (sym (name-end .rest)) ∙ eqb-true _ _ n)))
       go false true true false l n h = h
       go false true false d l n h = h
       go false false c d l n h = h
@@ -102,10 +102,10 @@ pub began : (s : List ℕ) (r x : Start) → r ≡ startOf s → r ≡ x → Sta
 began s r x e f = subst (Started s) (sym e ∙ f) (started s)
 
 -- ---- the places that the code finds
-module _ (s : List ℕ) (at : ℕ) (p : at ≡ 0 + length (run isSpace (drop 0 s))) where
+module _ (s : List ℕ) (at : ℕ) (p : at ≡ 0 + length (runOf isSpace (drop 0 s))) where
   from : startAt s at ≡ startOf s
   unfolding startOf
-  from = ap (startAt s) (p ∙ zero-add (length (run isSpace s)))
+  from = ap (startAt s) (p ∙ zero-add (length (runOf isSpace s)))
 
   worded : Bool → Start
   worded b = cond b (namedAt s at (at + length (nameAt s at))) Start.Other
@@ -122,7 +122,7 @@ module _ (s : List ℕ) (at : ℕ) (p : at ≡ 0 + length (run isSpace (drop 0 s
   unfolding worded
   start-other h l = worded-from h false l
 
-  module _ (h : at < length s) (l : isLetter (headOf (drop at s)) ≡ true) (e n : ℕ) (q : e ≡ at + length (run isPart (drop at s))) (r : n ≡ e + length (run isSpace (drop e s))) where
+  module _ (h : at < length s) (l : isLetter (headOf (drop at s)) ≡ true) (e n : ℕ) (q : e ≡ at + length (runOf isPart (drop at s))) (r : n ≡ e + length (runOf isSpace (drop e s))) where
     named-from : namedAt s at e ≡ startOf s
     unfolding worded
     named-from = ap (namedAt s at) q ∙ worded-from h true l
@@ -131,7 +131,7 @@ module _ (s : List ℕ) (at : ℕ) (p : at ≡ 0 + length (run isSpace (drop 0 s
     to = passed isSpace s e n r .rest
 
     worded-at : Start
-    worded-at = Start.Word (keyOf (nameAt s at)) (e + length (run isSpace (drop e s)))
+    worded-at = Start.Word (keyOf (nameAt s at)) (e + length (runOf isSpace (drop e s)))
 
     pub start-word : (headOf (drop n s) ≡ 58 → ⊥) → (key : ℕ) → key ≡ keyOf (nameAt s at) → Start.Word key n ≡ startOf s
     unfolding worded-at
@@ -146,10 +146,10 @@ module _ (s : List ℕ) (at : ℕ) (p : at ≡ 0 + length (run isSpace (drop 0 s
         ∙ ap (λ (t : Bool). cond t (cond (nothing (skip (tailOf (skip (drop e s))))) (Start.Label at) Start.Other) worded-at) (sym (ap (λ (u : List ℕ). eqb (headOf u) 58) (sym to) ∙ eq-eqb _ _ c))
         ∙ named-from
 
-    pub start-more : headOf (drop n s) ≡ 58 → (m : ℕ) → m ≡ n + 1 + length (run isSpace (drop (n + 1) s)) → m < length s → Start.Other ≡ startOf s
+    pub start-more : headOf (drop n s) ≡ 58 → (m : ℕ) → m ≡ n + 1 + length (runOf isSpace (drop (n + 1) s)) → m < length s → Start.Other ≡ startOf s
     start-more c m e b = ap (λ (t : Bool). cond t (Start.Label at) Start.Other) (sym (ap nothing (sym (passed isSpace s (n + 1) m e .rest)) ∙ nothing-not s m b)) ∙ colon c
 
-    pub start-label : headOf (drop n s) ≡ 58 → (m : ℕ) → m ≡ n + 1 + length (run isSpace (drop (n + 1) s)) → length s ≤ m → Start.Label at ≡ startOf s
+    pub start-label : headOf (drop n s) ≡ 58 → (m : ℕ) → m ≡ n + 1 + length (runOf isSpace (drop (n + 1) s)) → length s ≤ m → Start.Label at ≡ startOf s
     start-label c m e b = ap (λ (t : Bool). cond t (Start.Label at) Start.Other) (sym (ap nothing (sym (passed isSpace s (n + 1) m e .rest)) ∙ nothing-end s m b)) ∙ colon c
 
 -- ---- an instruction's answer names no label

@@ -23,21 +23,21 @@ use Rattle.sums.specs.Code.{of64}
 use Rattle.lines.proofs.Steps.{nothing-end, nothing-not}
 use lib.ListN.{length, drop}
 use Rattle.sums.proofs.Differences.{dif-ge, dif-lt}
-use Rattle.lines.specs.Lines.{Kind, register, kindsOf, push, parts, partsBy, wordIn, wordOf, toldBy, Told, word, wrong}
+use Rattle.lines.specs.Lines.{Kind, register, kindsOf, pushed, parts, partsBy, wordMade, wordFor, saidWord, Saying, word, wrong}
 use Rattle.lines.specs.Reader.{operandRead, nothing, with, operandsRead}
 use Rattle.lines.specs.Code.{commaRead, lastRead, wordSaid, isNumbered}
 
 -- ---- operands, one by one
 module _ (look : List ℕ → Option ℤ) where
-  ops-comma : (k j : Kind) (ks : List Kind) (t : List ℕ) → operandsRead (k ∷ (j ∷ ks)) look t ≡ with (commaRead k look t) (λ v u. push (some v) (operandsRead (j ∷ ks) look u))
+  ops-comma : (k j : Kind) (ks : List Kind) (t : List ℕ) → operandsRead (k ∷ (j ∷ ks)) look t ≡ with (commaRead k look t) (λ v u. pushed (some v) (operandsRead (j ∷ ks) look u))
   unfolding operandsRead commaRead
   ops-comma k j ks t = go (operandRead k look (skip t))
     where
-      by : (c : Bool) (v : ℤ) (u : List ℕ) → cond c (push (some v) (operandsRead (j ∷ ks) look (tailOf u))) none ≡ with (cond c (got v (tailOf u)) bad) (λ v u. push (some v) (operandsRead (j ∷ ks) look u))
+      by : (c : Bool) (v : ℤ) (u : List ℕ) → cond c (pushed (some v) (operandsRead (j ∷ ks) look (tailOf u))) none ≡ with (cond c (got v (tailOf u)) bad) (λ v u. pushed (some v) (operandsRead (j ∷ ks) look u))
       by true v u = refl
       by false v u = refl
 
-      go : (w : Got) → with w (λ v u. cond (eqb (headOf u) 44) (push (some v) (operandsRead (j ∷ ks) look (tailOf u))) none) ≡ with (onto (λ v u. cond (eqb (headOf u) 44) (got v (tailOf u)) bad) w) (λ v u. push (some v) (operandsRead (j ∷ ks) look u))
+      go : (w : Got) → with w (λ v u. cond (eqb (headOf u) 44) (pushed (some v) (operandsRead (j ∷ ks) look (tailOf u))) none) ≡ with (onto (λ v u. cond (eqb (headOf u) 44) (got v (tailOf u)) bad) w) (λ v u. pushed (some v) (operandsRead (j ∷ ks) look u))
       go bad = refl
       go (got v u) = by (eqb (headOf u) 44) v u
 
@@ -54,10 +54,10 @@ module _ (look : List ℕ → Option ℤ) where
       go (got v u) = by (nothing u) v u
 
   pub first-bad : (k j : Kind) (ks : List Kind) (t : List ℕ) → commaRead k look t ≡ bad → operandsRead (k ∷ (j ∷ ks)) look t ≡ none
-  first-bad k j ks t e = ops-comma k j ks t ∙ ap (λ (w : Got). with w (λ v u. push (some v) (operandsRead (j ∷ ks) look u))) e
+  first-bad k j ks t e = ops-comma k j ks t ∙ ap (λ (w : Got). with w (λ v u. pushed (some v) (operandsRead (j ∷ ks) look u))) e
 
-  pub first-got : (k j : Kind) (ks : List Kind) (t : List ℕ) (v : ℤ) (u : List ℕ) (o : Option (List ℤ)) → commaRead k look t ≡ got v u → operandsRead (j ∷ ks) look u ≡ o → operandsRead (k ∷ (j ∷ ks)) look t ≡ push (some v) o
-  first-got k j ks t v u o e f = ops-comma k j ks t ∙ ap (λ (w : Got). with w (λ v u. push (some v) (operandsRead (j ∷ ks) look u))) e ∙ ap (push (some v)) f
+  pub first-got : (k j : Kind) (ks : List Kind) (t : List ℕ) (v : ℤ) (u : List ℕ) (o : Option (List ℤ)) → commaRead k look t ≡ got v u → operandsRead (j ∷ ks) look u ≡ o → operandsRead (k ∷ (j ∷ ks)) look t ≡ pushed (some v) o
+  first-got k j ks t v u o e f = ops-comma k j ks t ∙ ap (λ (w : Got). with w (λ v u. pushed (some v) (operandsRead (j ∷ ks) look u))) e ∙ ap (pushed (some v)) f
 
   pub last-none : (k : Kind) (t : List ℕ) → lastRead k look t ≡ bad → operandsRead (k ∷ []) look t ≡ none
   last-none k t e = ops-last k t ∙ ap (λ (w : Got). with w (λ v u. some (v ∷ []))) e
@@ -71,13 +71,13 @@ module _ (look : List ℕ → Option ℤ) where
   register-any look′ t w e = e
 
 -- ---- the word
-pub none-word : (op : Opcode) (o : Option (List ℤ)) → o ≡ none → toldBy (wordOf op o) ≡ Told.wrong
-unfolding wordOf
-none-word op o e = ap (λ (x : Option (List ℤ)). toldBy (wordOf op x)) e
+pub none-word : (op : Opcode) (o : Option (List ℤ)) → o ≡ none → saidWord (wordFor op o) ≡ Saying.wrong
+unfolding wordFor
+none-word op o e = ap (λ (x : Option (List ℤ)). saidWord (wordFor op x)) e
 
-pub some-word : (op : Opcode) (o : Option (List ℤ)) (vs : List ℤ) (p : Parts) → o ≡ some vs → partsBy op (formOf op) vs ≡ p → toldBy (wordOf op o) ≡ toldBy (wordIn (encodedIn opcodeNumber p))
-unfolding wordOf
-some-word op o vs p e q = ap (λ (x : Option (List ℤ)). toldBy (wordOf op x)) e ∙ ap (λ (x : Parts). toldBy (wordIn (encodedIn opcodeNumber x))) q
+pub some-word : (op : Opcode) (o : Option (List ℤ)) (vs : List ℤ) (p : Parts) → o ≡ some vs → partsBy op (formOf op) vs ≡ p → saidWord (wordFor op o) ≡ saidWord (wordMade (encodedIn opcodeNumber p))
+unfolding wordFor
+some-word op o vs p e q = ap (λ (x : Option (List ℤ)). saidWord (wordFor op x)) e ∙ ap (λ (x : Parts). saidWord (wordMade (encodedIn opcodeNumber x))) q
 
 pub word-is : (w n : ℕ) → n ≡ w → n < 2 ^ 32 → word w ≡ wordSaid n
 word-is w n e h = ap word (sym e) ∙ sym (ap (λ (c : Bool). cond c (word n) wrong) (lt-ltb n (2 ^ 32) h))

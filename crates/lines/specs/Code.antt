@@ -9,10 +9,10 @@ use lib.ListN.{length, drop}
 use Rattle.opcode.specs.declared.Form.{Form}
 use Rattle.opcode.specs.declared.Form.the-variants.{R, I, Shift, S, B, J, Alone}
 use Rattle.labels.specs.Bytes.{isSpace, isLetter, isPart, headOf, keyOf}
-use Rattle.labels.specs.Reading.{tailOf, run, skip, nameAt}
+use Rattle.labels.specs.Reading.{tailOf, runOf, skip, nameAt}
 use Rattle.sums.specs.Reader.{Got, got, bad, onto}
 use Rattle.sums.specs.Code.{lookIn}
-use Rattle.lines.specs.Lines.{Kind, Told, empty, named, word, wrong, baseOf}
+use Rattle.lines.specs.Lines.{Kind, Saying, empty, named, word, wrong, baseOf}
 use Rattle.lines.specs.Reader.{operandRead, nothing}
 use Rattle.lines.specs.declared.operands.Reg.{Reg}
 use Rattle.lines.specs.declared.operands.Reg.the-variants as Reg
@@ -42,14 +42,14 @@ Within s Reg.Bad = Unit {0}
 abbrev pub labelsIn : List ℕ → List ℕ → ℕ → Form → List ℕ → Option ℤ
 labelsIn text table own f = lookIn text table (baseOf f own)
 
-abbrev pub saidOf : List ℕ → Said → Told
+abbrev pub saidOf : List ℕ → Said → Saying
 saidOf s Said.Blank = empty
-saidOf s Said.Name = named (run isPart (skip s))
+saidOf s Said.Name = named (runOf isPart (skip s))
 saidOf s (Said.Word w) = word w
 saidOf s Said.Bad = wrong
 
 -- a word, or a greater number where the line is wrong
-abbrev pub wordSaid : ℕ → Told
+abbrev pub wordSaid : ℕ → Saying
 wordSaid w = cond (ltb w (2 ^ 32)) (word w) wrong
 
 abbrev pub saidBy : ℕ → Said
@@ -69,7 +69,7 @@ isNumbered Alone = false
 abbrev pub namedAt : List ℕ → ℕ → ℕ → Start
 namedAt s at e =
     cond (eqb (headOf (skip (drop e s))) 58) (cond (nothing (skip (tailOf (skip (drop e s))))) (Start.Label at) Start.Other)
-    (Start.Word (keyOf (nameAt s at)) (e + length (run isSpace (drop e s))))
+    (Start.Word (keyOf (nameAt s at)) (e + length (runOf isSpace (drop e s))))
 
 abbrev pub startAt : List ℕ → ℕ → Start
 startAt s at =
@@ -80,4 +80,4 @@ abbrev pub isEnd : ℕ → Bool
 isEnd b = isSpace b || eqb b 58
 
 unfoldable pub startOf : List ℕ → Start
-startOf s = startAt s (length (run isSpace s))
+startOf s = startAt s (length (runOf isSpace s))

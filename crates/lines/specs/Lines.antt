@@ -73,60 +73,60 @@ abbrev pub operandValue : {k : Kind} → Operand k → (List ℕ → Option ℤ)
 operandValue (reg r h) look = some (pos r)
 operandValue (sum e) look = sumValue e look 16
 
-abbrev pub push : Option ℤ → Option (List ℤ) → Option (List ℤ)
-push none vs = none
-push (some v) none = none
-push (some v) (some vs) = some (v ∷ vs)
+abbrev pub pushed : Option ℤ → Option (List ℤ) → Option (List ℤ)
+pushed none vs = none
+pushed (some v) none = none
+pushed (some v) (some vs) = some (v ∷ vs)
 
 unfoldable pub operandsValues : {ks : List Kind} → Operands ks → (List ℕ → Option ℤ) → Option (List ℤ)
 operandsValues without look = some []
-operandsValues (last g o h) look = push (operandValue o look) (some [])
-operandsValues (more g o h os) look = push (operandValue o look) (operandsValues os look)
+operandsValues (last g o h) look = pushed (operandValue o look) (some [])
+operandsValues (more g o h os) look = pushed (operandValue o look) (operandsValues os look)
 
 -- the number of an operand modulo 2^64, counted from 0
-abbrev pub bits : List ℤ → ℕ → ℕ
-bits [] n = 0
-bits (v ∷ vs) zero = ofZ w64 v
-bits (v ∷ vs) (suc n) = bits vs n
+abbrev pub bitsAt : List ℤ → ℕ → ℕ
+bitsAt [] n = 0
+bitsAt (v ∷ vs) zero = ofZ w64 v
+bitsAt (v ∷ vs) (suc n) = bitsAt vs n
 
 abbrev pub parts : Opcode → ℕ → ℕ → ℕ → ℕ → Parts
 parts op a b c imm = record { op = op; a = a; b = b; c = c; imm = imm }
 
 -- an instruction's operands, of the values that were written for them: 0 for those that it lacks
 unfoldable pub partsBy : Opcode → Form → List ℤ → Parts
-partsBy op R vs = parts op (bits vs 0) (bits vs 1) (bits vs 2) 0
-partsBy op I vs = parts op (bits vs 0) (bits vs 1) 0 (bits vs 2)
-partsBy op Shift vs = parts op (bits vs 0) (bits vs 1) 0 (bits vs 2)
-partsBy op S vs = parts op (bits vs 0) (bits vs 1) 0 (bits vs 2)
-partsBy op B vs = parts op (bits vs 0) (bits vs 1) 0 (bits vs 2)
-partsBy op J vs = parts op (bits vs 0) 0 0 (bits vs 1)
+partsBy op R vs = parts op (bitsAt vs 0) (bitsAt vs 1) (bitsAt vs 2) 0
+partsBy op I vs = parts op (bitsAt vs 0) (bitsAt vs 1) 0 (bitsAt vs 2)
+partsBy op Shift vs = parts op (bitsAt vs 0) (bitsAt vs 1) 0 (bitsAt vs 2)
+partsBy op S vs = parts op (bitsAt vs 0) (bitsAt vs 1) 0 (bitsAt vs 2)
+partsBy op B vs = parts op (bitsAt vs 0) (bitsAt vs 1) 0 (bitsAt vs 2)
+partsBy op J vs = parts op (bitsAt vs 0) 0 0 (bitsAt vs 1)
 partsBy op Alone vs = parts op 0 0 0 0
 
-abbrev pub wordIn : Encoded → Option ℕ
-wordIn (E.Word w) = some w
-wordIn (E.Refused r) = none
+abbrev pub wordMade : Encoded → Option ℕ
+wordMade (E.Word w) = some w
+wordMade (E.Refused r) = none
 
 -- the word, if every value is one and fits its field
-unfoldable pub wordOf : Opcode → Option (List ℤ) → Option ℕ
-wordOf op none = none
-wordOf op (some vs) = wordIn (encodedIn opcodeNumber (partsBy op (formOf op) vs))
+unfoldable pub wordFor : Opcode → Option (List ℤ) → Option ℕ
+wordFor op none = none
+wordFor op (some vs) = wordMade (encodedIn opcodeNumber (partsBy op (formOf op) vs))
 
 -- what a line says: nothing, a label, an instruction's word, or what is wrong. `look` gives the labels' values, which in a branch
 -- or a jump are distances
-pub data Told : Type 0 where
-  empty : Told
-  named : List ℕ → Told
-  word : ℕ → Told
-  wrong : Told
+pub data Saying : Type 0 where
+  empty : Saying
+  named : List ℕ → Saying
+  word : ℕ → Saying
+  wrong : Saying
 
-abbrev pub toldBy : Option ℕ → Told
-toldBy none = wrong
-toldBy (some w) = word w
+abbrev pub saidWord : Option ℕ → Saying
+saidWord none = wrong
+saidWord (some w) = word w
 
-unfoldable pub lineTold : Line → (Form → List ℕ → Option ℤ) → Told
-lineTold (blank g) look = empty
-lineTold (defines g name n h k) look = named name
-lineTold (instruction g op os h) look = toldBy (wordOf op (operandsValues os (look (formOf op))))
+unfoldable pub lineSaying : Line → (Form → List ℕ → Option ℤ) → Saying
+lineSaying (blank g) look = empty
+lineSaying (defines g name n h k) look = named name
+lineSaying (instruction g op os h) look = saidWord (wordFor op (operandsValues os (look (formOf op))))
 
 -- "A label means its byte address, and in a branch or Jal its distance from the instruction": where `own` instructions stand before it,
 -- the number of those from which a label is counted

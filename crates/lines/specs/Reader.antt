@@ -11,9 +11,9 @@ use Rattle.opcode.specs.declared.Found.{Found}
 use Rattle.opcode.specs.declared.Found.the-variants.{Op, Nothing}
 use Rattle.names.specs.Names.{nameKey}
 use Rattle.labels.specs.Bytes.{isDigit, isLetter, isPart, headOf, keyOf}
-use Rattle.labels.specs.Reading.{tailOf, run, past, skip}
+use Rattle.labels.specs.Reading.{tailOf, runOf, past, skip}
 use Rattle.sums.specs.Reader.{Got, got, bad, onto, sumRead}
-use Rattle.lines.specs.Lines.{Kind, register, immediate, kindsOf, push, wordOf, Told, empty, named, wrong, toldBy}
+use Rattle.lines.specs.Lines.{Kind, register, immediate, kindsOf, pushed, wordFor, Saying, empty, named, wrong, saidWord}
 
 -- "R" and one digit, or two: the second is one that makes it 10 to 15
 abbrev pub isTeen : List ℕ → Bool
@@ -43,18 +43,18 @@ unfoldable pub operandsRead : List Kind → (List ℕ → Option ℤ) → List �
 operandsRead [] look t = cond (nothing (skip t)) (some []) none
 operandsRead (k ∷ []) look t = with (operandRead k look (skip t)) (λ v u. cond (nothing u) (some (v ∷ [])) none)
 operandsRead (k ∷ (j ∷ ks)) look t =
-    with (operandRead k look (skip t)) (λ v u. cond (eqb (headOf u) 44) (push (some v) (operandsRead (j ∷ ks) look (tailOf u))) none)
+    with (operandRead k look (skip t)) (λ v u. cond (eqb (headOf u) 44) (pushed (some v) (operandsRead (j ∷ ks) look (tailOf u))) none)
 
-abbrev pub instructionRead : Found → (Form → List ℕ → Option ℤ) → List ℕ → Told
-instructionRead (Op op) look t = toldBy (wordOf op (operandsRead (kindsOf (formOf op)) (look (formOf op)) t))
+abbrev pub instructionRead : Found → (Form → List ℕ → Option ℤ) → List ℕ → Saying
+instructionRead (Op op) look t = saidWord (wordFor op (operandsRead (kindsOf (formOf op)) (look (formOf op)) t))
 instructionRead Nothing look t = wrong
 
 -- what a line says that begins with a letter
-unfoldable pub wordRead : (Form → List ℕ → Option ℤ) → List ℕ → Told
+unfoldable pub wordRead : (Form → List ℕ → Option ℤ) → List ℕ → Saying
 wordRead look t =
     cond (eqb (headOf (skip (past isPart t))) 58)
-    (cond (nothing (skip (tailOf (skip (past isPart t))))) (named (run isPart t)) wrong)
-    (instructionRead (opcodeIn nameKey (keyOf (run isPart t))) look (past isPart t))
+    (cond (nothing (skip (tailOf (skip (past isPart t))))) (named (runOf isPart t)) wrong)
+    (instructionRead (opcodeIn nameKey (keyOf (runOf isPart t))) look (past isPart t))
 
-unfoldable pub lineRead : (Form → List ℕ → Option ℤ) → List ℕ → Told
+unfoldable pub lineRead : (Form → List ℕ → Option ℤ) → List ℕ → Saying
 lineRead look t = cond (nothing (skip t)) empty (cond (isLetter (headOf (skip t))) (wordRead look (skip t)) wrong)

@@ -8,7 +8,7 @@ ghost use mathlib.Core.Path.{_≡_};
 ghost use Prim.Native.Nat.{_≤_};
 ghost use lib.ListN.{drop};
 ghost use mathlib.Core.List.{[]};
-ghost use Rattle.sums.specs.Code.{lookIn, seen};
+ghost use Rattle.sums.specs.Code.{lookIn, readTo};
 ghost use Rattle.lines.specs.Lines.{Kind, register as Kind·register, immediate as Kind·immediate};
 ghost use Rattle.lines.specs.Reader.{registerRead};
 ghost use Rattle.lines.specs.Code.{isTwo, commaRead, lastRead, regSeen, Within};
@@ -75,7 +75,7 @@ pub(crate) fn register_last(s: &[u8], at: usize) -> Reg
 
 // A number at the end of the line.
 pub(crate) fn number_last(s: &[u8], text: &[u8], table: &[u64], base: u64, at: usize) -> Read
-    ensures { λ r. ⌜ lastRead Kind·immediate (lookIn (now (text .entry)) (now (table .entry)) base) (drop at (now (s .entry))) ≡ seen (now (s .entry)) r ⌝ }
+    ensures { λ r. ⌜ lastRead Kind·immediate (lookIn (now (text .entry)) (now (table .entry)) base) (drop at (now (s .entry))) ≡ readTo (now (s .entry)) r ⌝ }
 {
     let Read::Value(v, n) = sum(s, text, table, base, skip(s, at), 16) else {
         return Read::Bad;

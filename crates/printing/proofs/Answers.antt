@@ -17,16 +17,16 @@ use Rattle.words.specs.declared.Decoded.the-variants as D
 use Rattle.told.specs.Told.{doneTold, refusedTold}
 use Rattle.told.specs.declared.Told.{Told}
 use Rattle.printing.specs.declared.measure.Room.the-variants as Room·
-use Rattle.printing.specs.Print.{Printed, text, undecodable, printLine, printedBy, printOf, toldBy, leftBy, printTold, printLeaves}
-use Rattle.printing.specs.Passes.{allWords, takenOf, roomAfter, andLines, linesOf, Put}
+use Rattle.printing.specs.Print.{Printed, text, undecodable, printLine, printedBy, printOf, toldOf, leftBy, printTold, printLeaves}
+use Rattle.printing.specs.Passes.{allWords, takenOf, roomAfter, andLines, printedLines, Put}
 
 -- the lines of words that all decode are their text
-lines-are : (ws t : List ℕ) → printOf ws ≡ text t → linesOf ws ≡ t
-unfolding printOf linesOf
+lines-are : (ws t : List ℕ) → printOf ws ≡ text t → printedLines ws ≡ t
+unfolding printOf printedLines
 lines-are [] t e = cc
 lines-are (w ∷ ws) t e = by (decodeIn opcodeNumber w) (printOf ws) (lines-are ws) e
   where
-    by : (d : Decoded) (rest : Printed) → ((s : List ℕ) → rest ≡ text s → linesOf ws ≡ s) → printedBy d rest ≡ text t → andLines (takenOf d) (linesOf ws) ≡ t
+    by : (d : Decoded) (rest : Printed) → ((s : List ℕ) → rest ≡ text s → printedLines ws ≡ s) → printedBy d rest ≡ text t → andLines (takenOf d) (printedLines ws) ≡ t
     by (D.Instruction i) (text s) more e =
         let is : printLine (partsOf i) ++ (10 ∷ s) ≡ t = cc in
         rw (more s refl, append-assoc) is
@@ -42,7 +42,7 @@ module _ (words old : List ℕ) where
   broken h = let e = ne-eqb (length words % 4) 0 h in (rw e, rw e)
 
   module _ (whole-words : length words % 4 ≡ 0) where
-    answered : (p : Printed) → printOf (allWords words) ≡ p → Answered (toldBy p (length old)) (leftBy p old)
+    answered : (p : Printed) → printOf (allWords words) ≡ p → Answered (toldOf p (length old)) (leftBy p old)
     unfolding printTold printLeaves
     answered p is = let e = eq-eqb (length words % 4) 0 whole-words in (rw (e, is), rw (e, is))
 
@@ -68,10 +68,10 @@ module _ (words old : List ℕ) where
           rw long at (answered (text t) (text-is .1))
 
       module _ (h : left ≡ 0 → ⊥) where
-        pub room-enough : length (linesOf (allWords words)) ≤ length old
+        pub room-enough : length (printedLines (allWords words)) ≤ length old
         room-enough = rw (lines-are (allWords words) (text-is .0) (text-is .1)) (omega (arith, text-is .2))
 
-        pub written : (new : List ℕ) (end : ℕ) → Put old new 0 end (linesOf (allWords words)) → Answered (doneTold end) new
+        pub written : (new : List ℕ) (end : ℕ) → Put old new 0 end (printedLines (allWords words)) → Answered (doneTold end) new
         written new end put =
             let t = text-is .0 in
             let lines = lines-are (allWords words) t (text-is .1) in

@@ -16,9 +16,9 @@ use Rattle.words.specs.declared.Decoded.{Decoded}
 use Rattle.words.specs.declared.Decoded.the-variants as D
 use Rattle.words.specs.declared.Encoded.the-variants as E
 use Rattle.words.specs.declared.Taken.the-variants as Taken·
-use Rattle.printing.specs.Passes.{takenOf, Registers}
+use Rattle.printing.specs.Passes.{takenOf, ShortRegisters}
 
-pub taken-registers : (w : ℕ) (p : Parts) → w < 2 ^ 32 → takenOf (decodeIn opcodeNumber w) ≡ Taken·.Apart p → Registers p
+pub taken-registers : (w : ℕ) (p : Parts) → w < 2 ^ 32 → takenOf (decodeIn opcodeNumber w) ≡ Taken·.Apart p → ShortRegisters p
 unfolding encodedIn partsFit
 taken-registers w p small = by (decodeIn opcodeNumber w) refl
   where
@@ -26,7 +26,7 @@ taken-registers w p small = by (decodeIn opcodeNumber w) refl
     fits true e = tt
     fits false e = absurd (let z : _≡_ {A = ℕ} 0 1 = cc in omega arith)
 
-    by : (d : Decoded) → decodeIn opcodeNumber w ≡ d → takenOf d ≡ Taken·.Apart p → Registers p
+    by : (d : Decoded) → decodeIn opcodeNumber w ≡ d → takenOf d ≡ Taken·.Apart p → ShortRegisters p
     by (D.Refused r) is e = absurd (let z : _≡_ {A = ℕ} 0 1 = cc in omega arith)
     by (D.Instruction i) is e =
         let same : partsOf i ≡ p = cc in

@@ -15,7 +15,7 @@ use Rattle.words.specs.declared.Decoded.the-variants as D
 use Rattle.words.specs.declared.Taken.the-variants as T
 use Rattle.printing.specs.declared.measure.Room.the-variants as Room·
 use Rattle.printing.specs.Print.{Printed, text, undecodable, printLine, printedBy, printOf}
-use Rattle.printing.specs.Passes.{takenOf, roomAfter, fed, linesOf}
+use Rattle.printing.specs.Passes.{takenOf, roomAfter, fed, printedLines}
 use Rattle.printing.proofs.Words.{wordsFrom, words-more}
 
 module _ (at : ℕ) (bs : List ℕ) (h : at + 4 ≤ length bs) where
@@ -33,8 +33,8 @@ module _ (at : ℕ) (bs : List ℕ) (h : at + 4 ≤ length bs) where
         by (D.Instruction i) (undecodable r) e = refl
         by (D.Refused r) rest e = absurd (let z : _≡_ {A = ℕ} 0 1 = cc in omega arith)
 
-    pub lines-more : linesOf (wordsFrom at bs) ≡ fed p ++ linesOf (wordsFrom (at + 4) bs)
-    unfolding linesOf
+    pub lines-more : printedLines (wordsFrom at bs) ≡ fed p ++ printedLines (wordsFrom (at + 4) bs)
+    unfolding printedLines
     lines-more = rw (words-more at bs h, is)
 
   module _ (r : Refusal) (is : takenOf (decodeIn opcodeNumber (numberAt 4 bs at)) ≡ T.Refused r) where
@@ -46,6 +46,6 @@ module _ (at : ℕ) (bs : List ℕ) (h : at + 4 ≤ length bs) where
         by (D.Instruction i) e = absurd (let z : _≡_ {A = ℕ} 0 1 = cc in omega arith)
         by (D.Refused s) e = let same : s ≡ r = cc in ap Room·.Refused same
 
-    pub lines-none : linesOf (wordsFrom at bs) ≡ []
-    unfolding linesOf
+    pub lines-none : printedLines (wordsFrom at bs) ≡ []
+    unfolding printedLines
     lines-none = rw (words-more at bs h, is)

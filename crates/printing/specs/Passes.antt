@@ -42,16 +42,16 @@ abbrev pub andLines : Taken → List ℕ → List ℕ
 andLines (T.Apart p) rest = fed p ++ rest
 andLines (T.Refused r) rest = []
 
-unfoldable pub linesOf : List ℕ → List ℕ
-linesOf [] = []
-linesOf (w ∷ ws) = andLines (takenOf (decodeIn opcodeNumber w)) (linesOf ws)
+unfoldable pub printedLines : List ℕ → List ℕ
+printedLines [] = []
+printedLines (w ∷ ws) = andLines (takenOf (decodeIn opcodeNumber w)) (printedLines ws)
 
 -- a piece of text stands at a place, and it ends where the writer says
 pub record Put (old new : List ℕ) (at end : ℕ) (piece : List ℕ) : Type 0 where
   pub stop : end ≡ at + length piece
   pub left : new ≡ sets old at piece
 
-pub record Registers (p : Parts) : Type 0 where
+pub record ShortRegisters (p : Parts) : Type 0 where
   pub a : p .a < 16
   pub b : p .b < 16
   pub c : p .c < 16

@@ -72,16 +72,16 @@ wordsIn zero bs = []
 wordsIn (suc n) bs = numberAt 4 bs 0 ∷ wordsIn n (drop 4 bs)
 
 -- ---- what the call answers, and what it leaves in the text that it is lent
-abbrev pub toldBy : Printed → ℕ → Told
-toldBy (text t) room = cond (ltb room (length t)) (refusedTold 9 0) (doneTold (length t))
-toldBy (undecodable r) room = refusedTold (numberOf r) (particularOf r)
+abbrev pub toldOf : Printed → ℕ → Told
+toldOf (text t) room = cond (ltb room (length t)) (refusedTold 9 0) (doneTold (length t))
+toldOf (undecodable r) room = refusedTold (numberOf r) (particularOf r)
 
 abbrev pub leftBy : Printed → List ℕ → List ℕ
 leftBy (text t) room = cond (ltb (length room) (length t)) room (t ++ drop (length t) room)
 leftBy (undecodable r) room = room
 
 unfoldable pub printTold : List ℕ → List ℕ → Told
-printTold words room = cond (eqb (length words % 4) 0) (toldBy (printOf (wordsIn (length words / 4) words)) (length room)) (refusedTold 9 0)
+printTold words room = cond (eqb (length words % 4) 0) (toldOf (printOf (wordsIn (length words / 4) words)) (length room)) (refusedTold 9 0)
 
 unfoldable pub printLeaves : List ℕ → List ℕ → List ℕ
 printLeaves words room = cond (eqb (length words % 4) 0) (leftBy (printOf (wordsIn (length words / 4) words)) room) room

@@ -11,7 +11,7 @@ ghost use mathlib.Core.Path.{_≡_};
 ghost use Prim.Native.Nat.{_+_, _≤_};
 ghost use lib.ListN.{length};
 ghost use Rattle.names.specs.Names.{nameOf};
-ghost use Rattle.printing.specs.Passes.{fed, Put, Registers};
+ghost use Rattle.printing.specs.Passes.{fed, Put, ShortRegisters};
 
 // The letters of an opcode's name, without a look at the name, which takes longer.
 fn letters(op: Opcode) -> usize
@@ -65,7 +65,7 @@ fn put_name(text: &mut [u8], at: usize, op: Opcode) -> usize
 }
 
 pub(crate) fn put_line(text: &mut [u8], at: usize, p: Parts) -> usize
-    requires { ⌜ Registers p ⌝ }
+    requires { ⌜ ShortRegisters p ⌝ }
     requires { ⌜ at + length (fed p) ≤ length (now text) ⌝ }
     ensures { λ r. ⌜ Put (now (text .entry)) (now (text .exit)) at r (fed p) ⌝ }
 {

@@ -10,7 +10,7 @@ ghost use Prim.Native.Nat.{_+_, _≤_, _<_};
 ghost use lib.ListN.{length};
 ghost use Rattle.names.specs.Names.{registerText};
 ghost use Rattle.printing.specs.Print.{numberText, operandTexts, spelled};
-ghost use Rattle.printing.specs.Passes.{twoRegisters, Put, Registers};
+ghost use Rattle.printing.specs.Passes.{twoRegisters, Put, ShortRegisters};
 
 fn register_length(r: u8) -> usize
     ensures { λ n. ⌜ (n ≡ length (registerText r)) × (n ≤ 3) ⌝ }
@@ -76,7 +76,7 @@ fn put_last(text: &mut [u8], at: usize, n: u64) -> usize
 }
 
 pub(crate) fn put_operands(text: &mut [u8], at: usize, f: Form, p: Parts) -> usize
-    requires { ⌜ Registers p ⌝ }
+    requires { ⌜ ShortRegisters p ⌝ }
     requires { ⌜ at + length (spelled (operandTexts f p)) ≤ length (now text) ⌝ }
     ensures { λ r. ⌜ Put (now (text .entry)) (now (text .exit)) at r (spelled (operandTexts f p)) ⌝ }
 {

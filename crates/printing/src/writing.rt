@@ -5,12 +5,12 @@ use words::Taken;
 ghost use mathlib.Core.Path.{_≡_};
 ghost use Prim.Native.Nat.{_%_, _≤_};
 ghost use lib.ListN.{length};
-ghost use Rattle.printing.specs.Passes.{allWords, linesOf, Put};
+ghost use Rattle.printing.specs.Passes.{allWords, printedLines, Put};
 
 pub(crate) fn put_lines(words: &[u8], text: &mut [u8]) -> usize
     requires { ⌜ length (now words) % 4 ≡ 0 ⌝ }
-    requires { ⌜ length (linesOf (allWords (now words))) ≤ length (now text) ⌝ }
-    ensures { λ r. ⌜ Put (now (text .entry)) (now (text .exit)) 0 r (linesOf (allWords (now (words .entry)))) ⌝ }
+    requires { ⌜ length (printedLines (allWords (now words))) ≤ length (now text) ⌝ }
+    ensures { λ r. ⌜ Put (now (text .entry)) (now (text .exit)) 0 r (printedLines (allWords (now (words .entry)))) ⌝ }
 {
     let mut at: usize = 0;
     let mut end: usize = 0;

@@ -12,8 +12,8 @@ use borrow.Author.Tests.{lt-ltb, le-ltb}
 use Rattle.memory.specs.Bytes.{bytes}
 use Rattle.told.specs.Told.{doneTold, refusedTold}
 use Rattle.told.specs.declared.Told.{Told}
-use Rattle.programs.specs.Programs.{Teller, Outcome, refused, made, assembleOf, labelsFrom, linesOf}
-use Rattle.programs.specs.Promise.{leaves, left, bytesOfWords, outcome, leftOf, Assembled}
+use Rattle.programs.specs.Programs.{Teller, Assembly, refused, made, assembleOf, labelsFrom, linesOf}
+use Rattle.programs.specs.Promise.{leaves, leftCleared, bytesOfWords, outcome, leftOf, Assembled}
 use Rattle.programs.specs.Code.{tellersOf, Gives, NotedAll, checkFrom, wordsFrom}
 use Rattle.programs.specs.declared.noting.Labels.{Labels}
 use Rattle.programs.specs.declared.noting.Labels.the-variants as Labels
@@ -32,34 +32,34 @@ front words ws h =
     let e = bytes-length ws in
     sets-eq (bytesOfWords ws) words 0 (omega arith) ∙ ap (λ (n : ℕ). bytesOfWords ws ++ drop n words) (zero-add (length (bytesOfWords ws)) ∙ e)
 
-count-bad : (o : Outcome) (n : ℕ) → count 0 o ≡ Checked.Bad n → o ≡ refused n
+count-bad : (o : Assembly) (n : ℕ) → count 0 o ≡ Checked.Bad n → o ≡ refused n
 unfolding count
 count-bad (refused m) n e = let q : m ≡ n = cc in ap refused q
 count-bad (made ws) n e = absurd (let z : _≡_ {A = ℕ} 0 1 = cc in omega arith)
 
-count-made : (o : Outcome) (n : ℕ) → count 0 o ≡ Checked.Words n → (ws : List ℕ) × ((o ≡ made ws) × (length ws ≡ n))
+count-made : (o : Assembly) (n : ℕ) → count 0 o ≡ Checked.Words n → (ws : List ℕ) × ((o ≡ made ws) × (length ws ≡ n))
 unfolding count
 count-made (refused m) n e = absurd (let z : _≡_ {A = ℕ} 0 1 = cc in omega arith)
 count-made (made ws) n e = let q : 0 + length ws ≡ n = cc in (ws, (refl, sym (zero-add (length ws)) ∙ q))
 
 module _ (text words labels : List ℕ) where
-  pub left-short : (table : List ℕ) (r : Labels) → NotedAll text table r → r ≡ Labels.Short → length table ≡ length labels → left (refusedTold 9 0) words labels ≡ leftOf (tellersOf text) words labels
+  pub left-short : (table : List ℕ) (r : Labels) → NotedAll text table r → r ≡ Labels.Short → length table ≡ length labels → leftCleared (refusedTold 9 0) words labels ≡ leftOf (tellersOf text) words labels
   unfolding leftOf
   left-short table r n e l =
       let h : length table < 3 * length (labelsFrom (tellersOf text) 0) = subst (NotedAll text table) e n in
-      sym (ap (λ (b : Bool). cond b (left (refusedTold 9 0) words labels) (outcome (assembleOf (tellersOf text)) words labels)) (lt-ltb (length labels) (3 * length (labelsFrom (tellersOf text) 0)) (omega arith)))
+      sym (ap (λ (b : Bool). cond b (leftCleared (refusedTold 9 0) words labels) (outcome (assembleOf (tellersOf text)) words labels)) (lt-ltb (length labels) (3 * length (labelsFrom (tellersOf text) 0)) (omega arith)))
 
   module _ (table : List ℕ) (second : ℕ) (r : Labels) (noted : NotedAll text table r) (all : r ≡ Labels.All second) (l : length table ≡ length labels) where
     g : Gives text table second
     g = subst (NotedAll text table) all noted
 
-    left-by : (o : Outcome) → assembleOf (tellersOf text) ≡ o → outcome o words labels ≡ leftOf (tellersOf text) words labels
+    left-by : (o : Assembly) → assembleOf (tellersOf text) ≡ o → outcome o words labels ≡ leftOf (tellersOf text) words labels
     unfolding leftOf
     left-by o e =
-        ap (λ (o : Outcome). outcome o words labels) (sym e)
-        ∙ sym (ap (λ (b : Bool). cond b (left (refusedTold 9 0) words labels) (outcome (assembleOf (tellersOf text)) words labels)) (le-ltb (length labels) (3 * length (labelsFrom (tellersOf text) 0)) (let r = g .room in omega arith)))
+        ap (λ (o : Assembly). outcome o words labels) (sym e)
+        ∙ sym (ap (λ (b : Bool). cond b (leftCleared (refusedTold 9 0) words labels) (outcome (assembleOf (tellersOf text)) words labels)) (le-ltb (length labels) (3 * length (labelsFrom (tellersOf text) 0)) (let r = g .room in omega arith)))
 
-    pub left-bad : (n : ℕ) → checkFrom text table second (linesOf text) 1 0 ≡ Checked.Bad n → left (refusedTold 10 n) words labels ≡ leftOf (tellersOf text) words labels
+    pub left-bad : (n : ℕ) → checkFrom text table second (linesOf text) 1 0 ≡ Checked.Bad n → leftCleared (refusedTold 10 n) words labels ≡ leftOf (tellersOf text) words labels
     unfolding outcome
     left-bad n e = left-by (refused n) (count-bad (assembleOf (tellersOf text)) n (sym (check-right text table second g) ∙ e))
 
@@ -67,30 +67,30 @@ module _ (text words labels : List ℕ) where
       found : (ws : List ℕ) × ((assembleOf (tellersOf text) ≡ made ws) × (length ws ≡ n))
       found = count-made (assembleOf (tellersOf text)) n (sym (check-right text table second g) ∙ e)
 
-      pub left-small : length words / 4 < n → left (refusedTold 9 0) words labels ≡ leftOf (tellersOf text) words labels
+      pub left-small : length words / 4 < n → leftCleared (refusedTold 9 0) words labels ≡ leftOf (tellersOf text) words labels
       unfolding outcome
       left-small h =
           let ws = found .0 in
           let k = found .1 .1 in
-          sym (ap (λ (b : Bool). cond b (left (refusedTold 9 0) words labels) (left (doneTold (4 * length ws)) (bytesOfWords ws ++ drop (4 * length ws) words) labels)) (lt-ltb (length words) (4 * length ws) (omega arith)))
+          sym (ap (λ (b : Bool). cond b (leftCleared (refusedTold 9 0) words labels) (leftCleared (doneTold (4 * length ws)) (bytesOfWords ws ++ drop (4 * length ws) words) labels)) (lt-ltb (length words) (4 * length ws) (omega arith)))
           ∙ left-by (made ws) (found .1 .0)
 
       pub words-fit : n ≤ length words / 4 → 4 * length (wordsFrom text table (linesOf text) 0) ≤ length words
       words-fit h = let k = ap length (words-right text table second g (found .0) (found .1 .0)) ∙ found .1 .1 in omega arith
 
-      pub left-done : n ≤ length words / 4 → left (doneTold (4 * n)) (sets words 0 (bytesOfWords (wordsFrom text table (linesOf text) 0))) labels ≡ leftOf (tellersOf text) words labels
+      pub left-done : n ≤ length words / 4 → leftCleared (doneTold (4 * n)) (sets words 0 (bytesOfWords (wordsFrom text table (linesOf text) 0))) labels ≡ leftOf (tellersOf text) words labels
       unfolding outcome
       left-done h =
           let ws = found .0 in
           let k = found .1 .1 in
           let fits : 4 * length ws ≤ length words = omega arith in
-          ap (λ (m : ℕ). left (doneTold (4 * m)) (sets words 0 (bytesOfWords (wordsFrom text table (linesOf text) 0))) labels) (sym k)
-          ∙ ap (λ (new : List ℕ). left (doneTold (4 * length ws)) new labels) (ap (λ (v : List ℕ). sets words 0 (bytesOfWords v)) (words-right text table second g ws (found .1 .0)) ∙ front words ws fits)
-          ∙ sym (ap (λ (b : Bool). cond b (left (refusedTold 9 0) words labels) (left (doneTold (4 * length ws)) (bytesOfWords ws ++ drop (4 * length ws) words) labels)) (le-ltb (length words) (4 * length ws) fits))
+          ap (λ (m : ℕ). leftCleared (doneTold (4 * m)) (sets words 0 (bytesOfWords (wordsFrom text table (linesOf text) 0))) labels) (sym k)
+          ∙ ap (λ (new : List ℕ). leftCleared (doneTold (4 * length ws)) new labels) (ap (λ (v : List ℕ). sets words 0 (bytesOfWords v)) (words-right text table second g ws (found .1 .0)) ∙ front words ws fits)
+          ∙ sym (ap (λ (b : Bool). cond b (leftCleared (refusedTold 9 0) words labels) (leftCleared (doneTold (4 * length ws)) (bytesOfWords ws ++ drop (4 * length ws) words) labels)) (le-ltb (length words) (4 * length ws) fits))
           ∙ left-by (made ws) (found .1 .0)
 
 -- ---- only the length of `labels` matters
-outcome-length : (o : Outcome) (words a b : List ℕ) → length a ≡ length b → outcome o words a ≡ outcome o words b
+outcome-length : (o : Assembly) (words a b : List ℕ) → length a ≡ length b → outcome o words a ≡ outcome o words b
 unfolding outcome
 outcome-length (refused line) words a b e = ap (λ (n : ℕ). leaves (refusedTold 10 line) words (replicate n 0)) e
 outcome-length (made ws) words a b e =
@@ -101,11 +101,11 @@ left-length : (fs : List Teller) (words a b : List ℕ) → length a ≡ length 
 unfolding leftOf
 left-length fs words a b e =
     ap (λ (n : ℕ). cond (ltb n (3 * length (labelsFrom fs 0))) (leaves (refusedTold 9 0) words (replicate n 0)) (outcome (assembleOf fs) words a)) e
-    ∙ ap (cond (ltb (length b) (3 * length (labelsFrom fs 0))) (left (refusedTold 9 0) words b)) (outcome-length (assembleOf fs) words a b e)
+    ∙ ap (cond (ltb (length b) (3 * length (labelsFrom fs 0))) (leftCleared (refusedTold 9 0) words b)) (outcome-length (assembleOf fs) words a b e)
 
 -- cleared before and after
 pub left-cleared : (text words labels : List ℕ) (told : Told) (new first second last : List ℕ) → first ≡ replicate (length labels) 0
-    → left told new first ≡ leftOf (tellersOf text) words first → length second ≡ length first → last ≡ replicate (length second) 0
+    → leftCleared told new first ≡ leftOf (tellersOf text) words first → length second ≡ length first → last ≡ replicate (length second) 0
     → Assembled text words labels (leaves told new last)
 left-cleared text words labels told new first second last c e l d =
     met text words labels (leaves told new last)

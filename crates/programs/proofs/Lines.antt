@@ -9,12 +9,12 @@ use lib.ListN.{length, getD, take, drop, length-append, take-append-drop, length
 use lib.Seq.{take-at, getD-drop, drop-drop}
 use borrow.Author.Tests.{eq-eqb, ne-eqb}
 use Rattle.labels.specs.Bytes.{every, headOf}
-use Rattle.labels.specs.Reading.{tailOf, run, past, Passed}
+use Rattle.labels.specs.Reading.{tailOf, runOf, past, Passed}
 use Rattle.lines.specs.Reader.{nothing}
 use Rattle.lines.proofs.Steps.{nothing-end, nothing-not}
 use Rattle.labels.proofs.Spans.{run-past, tail-drop, head-drop, past-on, past-append}
 use Rattle.labels.proofs.Steps.{Going, stops}
-use Rattle.programs.specs.Programs.{push, linesOf}
+use Rattle.programs.specs.Programs.{withByte, linesOf}
 use Rattle.programs.specs.Code.{isText, stripped}
 
 -- the first line, and the text after its LF
@@ -22,11 +22,11 @@ unfoldable pub rest : List ℕ → List ℕ
 rest t = tailOf (past isText t)
 
 unfoldable pub first : List ℕ → List ℕ
-first t = stripped (not (nothing (past isText t))) (run isText t)
+first t = stripped (not (nothing (past isText t))) (runOf isText t)
 
 -- a byte that is no LF, nor a CR before one, begins the line
 text-on : (b d : ℕ) (t : List ℕ) → eqb b 10 ≡ false → eqb b 13 && eqb d 10 ≡ false → first (b ∷ (d ∷ t)) ≡ b ∷ first (d ∷ t)
-unfolding first run past stripped
+unfolding first runOf past stripped
 text-on b d t n c = rw n (go (eqb d 10) refl c)
   where
     no-strip : (x : Bool) → x && true ≡ false → cond x [] (b ∷ []) ≡ b ∷ []
@@ -34,16 +34,16 @@ text-on b d t n c = rw n (go (eqb d 10) refl c)
     no-strip false h = refl
 
     go : (x : Bool) → eqb d 10 ≡ x → eqb b 13 && x ≡ false
-        → stripped (not (nothing (cond (not x) (past isText t) (d ∷ t)))) (b ∷ cond (not x) (d ∷ run isText t) []) ≡ b ∷ stripped (not (nothing (cond (not x) (past isText t) (d ∷ t)))) (cond (not x) (d ∷ run isText t) [])
+        → stripped (not (nothing (cond (not x) (past isText t) (d ∷ t)))) (b ∷ cond (not x) (d ∷ runOf isText t) []) ≡ b ∷ stripped (not (nothing (cond (not x) (past isText t) (d ∷ t)))) (cond (not x) (d ∷ runOf isText t) [])
     go true e h = no-strip (eqb b 13) h
     go false e h = by (not (nothing (past isText t)))
       where
-        by : (y : Bool) → stripped y (b ∷ (d ∷ run isText t)) ≡ b ∷ stripped y (d ∷ run isText t)
+        by : (y : Bool) → stripped y (b ∷ (d ∷ runOf isText t)) ≡ b ∷ stripped y (d ∷ runOf isText t)
         by true = refl
         by false = refl
 
 pub lines-first : (b : ℕ) (t : List ℕ) → linesOf (b ∷ t) ≡ first (b ∷ t) ∷ linesOf (rest (b ∷ t))
-unfolding linesOf first rest run past tailOf headOf stripped
+unfolding linesOf first rest runOf past tailOf headOf stripped
 lines-first b [] = go (eqb b 10) refl
   where
     go : (x : Bool) → eqb b 10 ≡ x → cond x ([] ∷ []) (cond (eqb b 13 && false) [] ((b ∷ []) ∷ [])) ≡ stripped (not (nothing (cond (not x) [] (b ∷ [])))) (cond (not x) (b ∷ []) []) ∷ linesOf (tailOf (cond (not x) [] (b ∷ [])))
@@ -56,12 +56,12 @@ lines-first b [] = go (eqb b 10) refl
 lines-first b (d ∷ t) = go (eqb b 10) (eqb b 13) (eqb d 10) refl refl refl (lines-first d t)
   where
     go : (x y z : Bool) → eqb b 10 ≡ x → eqb b 13 ≡ y → eqb d 10 ≡ z → linesOf (d ∷ t) ≡ first (d ∷ t) ∷ linesOf (rest (d ∷ t))
-        → cond x ([] ∷ linesOf (d ∷ t)) (cond (y && z) (linesOf (d ∷ t)) (push b (linesOf (d ∷ t)))) ≡ first (b ∷ (d ∷ t)) ∷ linesOf (rest (b ∷ (d ∷ t)))
-    go true y z ex ey ez ih = sym (ap (λ (q : Bool). stripped (not (nothing (cond (not q) (past isText (d ∷ t)) (b ∷ (d ∷ t))))) (cond (not q) (b ∷ run isText (d ∷ t)) []) ∷ linesOf (tailOf (cond (not q) (past isText (d ∷ t)) (b ∷ (d ∷ t))))) ex)
+        → cond x ([] ∷ linesOf (d ∷ t)) (cond (y && z) (linesOf (d ∷ t)) (withByte b (linesOf (d ∷ t)))) ≡ first (b ∷ (d ∷ t)) ∷ linesOf (rest (b ∷ (d ∷ t)))
+    go true y z ex ey ez ih = sym (ap (λ (q : Bool). stripped (not (nothing (cond (not q) (past isText (d ∷ t)) (b ∷ (d ∷ t))))) (cond (not q) (b ∷ runOf isText (d ∷ t)) []) ∷ linesOf (tailOf (cond (not q) (past isText (d ∷ t)) (b ∷ (d ∷ t))))) ex)
     go false true true ex ey ez ih =
-        ih ∙ ap (λ (q : Bool). stripped (not (nothing (cond (not q) (past isText t) (d ∷ t)))) (cond (not q) (d ∷ run isText t) []) ∷ linesOf (tailOf (cond (not q) (past isText t) (d ∷ t)))) ez
-        ∙ sym (ap (λ (q : Bool). stripped (not (nothing (cond (not q) (past isText (d ∷ t)) (b ∷ (d ∷ t))))) (cond (not q) (b ∷ run isText (d ∷ t)) []) ∷ linesOf (tailOf (cond (not q) (past isText (d ∷ t)) (b ∷ (d ∷ t))))) ex
-        ∙ ap (λ (q : Bool). stripped (not (nothing (cond (not q) (past isText t) (d ∷ t)))) (b ∷ cond (not q) (d ∷ run isText t) []) ∷ linesOf (tailOf (cond (not q) (past isText t) (d ∷ t)))) ez
+        ih ∙ ap (λ (q : Bool). stripped (not (nothing (cond (not q) (past isText t) (d ∷ t)))) (cond (not q) (d ∷ runOf isText t) []) ∷ linesOf (tailOf (cond (not q) (past isText t) (d ∷ t)))) ez
+        ∙ sym (ap (λ (q : Bool). stripped (not (nothing (cond (not q) (past isText (d ∷ t)) (b ∷ (d ∷ t))))) (cond (not q) (b ∷ runOf isText (d ∷ t)) []) ∷ linesOf (tailOf (cond (not q) (past isText (d ∷ t)) (b ∷ (d ∷ t))))) ex
+        ∙ ap (λ (q : Bool). stripped (not (nothing (cond (not q) (past isText t) (d ∷ t)))) (b ∷ cond (not q) (d ∷ runOf isText t) []) ∷ linesOf (tailOf (cond (not q) (past isText t) (d ∷ t)))) ez
         ∙ ap (λ (q : Bool). cond q [] (b ∷ []) ∷ linesOf t) ey)
     go false true false ex ey ez ih = plain (text-on b d t ex (ap (eqb b 13 &&_) ez ∙ no (eqb b 13))) ex ih
       where
@@ -69,12 +69,12 @@ lines-first b (d ∷ t) = go (eqb b 10) (eqb b 13) (eqb d 10) refl refl refl (li
         no true = refl
         no false = refl
 
-        plain : first (b ∷ (d ∷ t)) ≡ b ∷ first (d ∷ t) → eqb b 10 ≡ false → linesOf (d ∷ t) ≡ first (d ∷ t) ∷ linesOf (rest (d ∷ t)) → push b (linesOf (d ∷ t)) ≡ first (b ∷ (d ∷ t)) ∷ linesOf (rest (b ∷ (d ∷ t)))
-        plain f e ih = ap (push b) ih ∙ ap (_∷ linesOf (rest (d ∷ t))) (sym f) ∙ ap (λ (q : Bool). first (b ∷ (d ∷ t)) ∷ linesOf (tailOf (cond (not q) (past isText (d ∷ t)) (b ∷ (d ∷ t))))) (sym e)
+        plain : first (b ∷ (d ∷ t)) ≡ b ∷ first (d ∷ t) → eqb b 10 ≡ false → linesOf (d ∷ t) ≡ first (d ∷ t) ∷ linesOf (rest (d ∷ t)) → withByte b (linesOf (d ∷ t)) ≡ first (b ∷ (d ∷ t)) ∷ linesOf (rest (b ∷ (d ∷ t)))
+        plain f e ih = ap (withByte b) ih ∙ ap (_∷ linesOf (rest (d ∷ t))) (sym f) ∙ ap (λ (q : Bool). first (b ∷ (d ∷ t)) ∷ linesOf (tailOf (cond (not q) (past isText (d ∷ t)) (b ∷ (d ∷ t))))) (sym e)
     go false false z ex ey ez ih = plain (text-on b d t ex (ap (_&& eqb d 10) ey)) ex ih
       where
-        plain : first (b ∷ (d ∷ t)) ≡ b ∷ first (d ∷ t) → eqb b 10 ≡ false → linesOf (d ∷ t) ≡ first (d ∷ t) ∷ linesOf (rest (d ∷ t)) → push b (linesOf (d ∷ t)) ≡ first (b ∷ (d ∷ t)) ∷ linesOf (rest (b ∷ (d ∷ t)))
-        plain f e ih = ap (push b) ih ∙ ap (_∷ linesOf (rest (d ∷ t))) (sym f) ∙ ap (λ (q : Bool). first (b ∷ (d ∷ t)) ∷ linesOf (tailOf (cond (not q) (past isText (d ∷ t)) (b ∷ (d ∷ t))))) (sym e)
+        plain : first (b ∷ (d ∷ t)) ≡ b ∷ first (d ∷ t) → eqb b 10 ≡ false → linesOf (d ∷ t) ≡ first (d ∷ t) ∷ linesOf (rest (d ∷ t)) → withByte b (linesOf (d ∷ t)) ≡ first (b ∷ (d ∷ t)) ∷ linesOf (rest (b ∷ (d ∷ t)))
+        plain f e ih = ap (withByte b) ih ∙ ap (_∷ linesOf (rest (d ∷ t))) (sym f) ∙ ap (λ (q : Bool). first (b ∷ (d ∷ t)) ∷ linesOf (tailOf (cond (not q) (past isText (d ∷ t)) (b ∷ (d ∷ t))))) (sym e)
 
 -- ---- a CR at the end of the line
 pub strip-cr : (l : List ℕ) (k : ℕ) → k < length l → getD l k 0 ≡ 13 → stripped true (take (suc k) l) ≡ take k l
@@ -92,21 +92,21 @@ strip-none (b ∷ []) (suc k) h e = absurd (omega arith)
 strip-none (b ∷ (d ∷ l)) (suc k) h e = ap (b ∷_) (strip-none (d ∷ l) k (omega arith) e)
 
 -- ---- places
-run-take : (s : List ℕ) (at n : ℕ) → at ≤ length s → Passed isText s at n → run isText (drop at s) ≡ take (n - at) (drop at s)
+run-take : (s : List ℕ) (at n : ℕ) → at ≤ length s → Passed isText s at n → runOf isText (drop at s) ≡ take (n - at) (drop at s)
 run-take s at n h p =
     let w = p .within h in
     let o = p .on in
-    let a : length (run isText (drop at s)) + length (past isText (drop at s)) ≡ length s - at = sym (length-append (run isText (drop at s)) (past isText (drop at s))) ∙ ap length (run-past isText (drop at s)) ∙ length-drop at s in
+    let a : length (runOf isText (drop at s)) + length (past isText (drop at s)) ≡ length s - at = sym (length-append (runOf isText (drop at s)) (past isText (drop at s))) ∙ ap length (run-past isText (drop at s)) ∙ length-drop at s in
     let b : length (past isText (drop at s)) ≡ length s - n = ap length (sym (p .rest)) ∙ length-drop n s in
-    let e : length (run isText (drop at s)) ≡ n - at = omega arith in
-    sym (ap (take (n - at)) (sym (run-past isText (drop at s))) ∙ take-at (run isText (drop at s)) (past isText (drop at s)) (n - at) e)
+    let e : length (runOf isText (drop at s)) ≡ n - at = omega arith in
+    sym (ap (take (n - at)) (sym (run-past isText (drop at s))) ∙ take-at (runOf isText (drop at s)) (past isText (drop at s)) (n - at) e)
 
 lines-at : (s : List ℕ) (at n : ℕ) → at < length s → Passed isText s at n
     → linesOf (drop at s) ≡ stripped (not (nothing (drop n s))) (take (n - at) (drop at s)) ∷ linesOf (drop (n + 1) s)
 unfolding first rest
 lines-at s at n h p =
     whole (drop at s) (let e = length-drop at s in omega arith)
-    ∙ ap (λ (u : List ℕ). stripped (not (nothing u)) (run isText (drop at s)) ∷ linesOf (tailOf u)) (sym (p .rest))
+    ∙ ap (λ (u : List ℕ). stripped (not (nothing u)) (runOf isText (drop at s)) ∷ linesOf (tailOf u)) (sym (p .rest))
     ∙ ap (λ (u : List ℕ). stripped (not (nothing (drop n s))) u ∷ linesOf (tailOf (drop n s))) (run-take s at n (omega arith) p)
     ∙ ap (λ (u : List ℕ). stripped (not (nothing (drop n s))) (take (n - at) (drop at s)) ∷ linesOf u) (tail-drop s n)
   where

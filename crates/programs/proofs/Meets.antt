@@ -22,7 +22,7 @@ use Rattle.opcode.specs.declared.Found.{Found}
 use Rattle.opcode.specs.declared.Found.the-variants.{Op, Nothing}
 use mathlib.Core.Option.{Option, none, some}
 use Rattle.names.specs.Names.{nameKey}
-use Rattle.lines.specs.Lines.{toldBy, named, wrong, kindsOf, wordOf}
+use Rattle.lines.specs.Lines.{saidWord, named, wrong, kindsOf, wordFor}
 use Rattle.lines.specs.Reader.{lineRead, instructionRead, operandsRead}
 use Rattle.lines.specs.Code.{isEnd, startOf}
 use Rattle.lines.specs.declared.Start.{Start}
@@ -30,7 +30,7 @@ use Rattle.lines.specs.declared.Start.the-variants as Start
 use Rattle.lines.proofs.Starts.{Started, began}
 use Rattle.lines.proofs.Ends.{plain-start}
 use Rattle.programs.specs.Programs.{noLabels, labelsFrom}
-use Rattle.programs.specs.Code.{tellersOf, Spans, secondBy, counted, After, after, defined, slotAfter, labelAfter, startAfter, isPlain, lineAfter}
+use Rattle.programs.specs.Code.{tellersOf, Spans, secondBy, oneMore, After, after, defined, slotAfter, labelAfter, startAfter, isPlain, lineAfter}
 use Rattle.programs.specs.declared.spans.Span.{Span}
 use Rattle.programs.specs.declared.noting.Tally.{Tally}
 use Rattle.programs.specs.declared.noting.Met.{Met}
@@ -56,9 +56,9 @@ module _ (table : List ℕ) (place key line : ℕ) (t : Tally) where
 
 -- ---- an instruction counts, right or wrong
 pub instruction-counts : (f : Found) (look : Form → List ℕ → Option ℤ) (u : List ℕ) → Counts (instructionRead f look u)
-instruction-counts (Op op) look u = go (wordOf op (operandsRead (kindsOf (formOf op)) (look (formOf op)) u))
+instruction-counts (Op op) look u = go (wordFor op (operandsRead (kindsOf (formOf op)) (look (formOf op)) u))
   where
-    go : (o : Option ℕ) → Counts (toldBy o)
+    go : (o : Option ℕ) → Counts (saidWord o)
     go none = tt
     go (some w) = tt
 instruction-counts Nothing look u = tt
@@ -127,12 +127,12 @@ module _ (text table : List ℕ) (at before : ℕ) (t : Tally) (g : Noting text 
   kept-short new e = subst Kept (sym e) kept
 
 -- ---- a line that is an instruction by its last byte
-pub plain-after : (text table s : List ℕ) (at line : ℕ) (t : Tally) → isPlain s ≡ true → after (Met.Go (counted t)) table ≡ lineAfter text table s at line t
+pub plain-after : (text table s : List ℕ) (at line : ℕ) (t : Tally) → isPlain s ≡ true → after (Met.Go (oneMore t)) table ≡ lineAfter text table s at line t
 unfolding lineAfter
 plain-after text table s at line t h = sym (go (length s) refl h)
   where
-    go : (n : ℕ) → length s ≡ n → cond (eqb n 0) false (not (isEnd (getD s (n - 1) 0))) ≡ true → startAfter text table (startOf s) at line t ≡ after (Met.Go (counted t)) table
+    go : (n : ℕ) → length s ≡ n → cond (eqb n 0) false (not (isEnd (getD s (n - 1) 0))) ≡ true → startAfter text table (startOf s) at line t ≡ after (Met.Go (oneMore t)) table
     go zero q h = absurd (let z : _≡_ {A = ℕ} 0 1 = cc in omega arith)
     go (suc k) q h =
         let i : isEnd (getD s (suc k - 1) 0) ≡ false = not-true _ (sym (ap (λ (b : Bool). cond b false (not (isEnd (getD s (suc k - 1) 0)))) (ne-eqb (suc k) 0 (λ z. omega arith))) ∙ h) in
-        plain-start (λ x. startAfter text table x at line t) (after (Met.Go (counted t)) table) s k q (ap (λ (m : ℕ). isEnd (getD s m 0)) (sym (sub-one (suc k))) ∙ i) (λ p e. refl) refl
+        plain-start (λ x. startAfter text table x at line t) (after (Met.Go (oneMore t)) table) s k q (ap (λ (m : ℕ). isEnd (getD s m 0)) (sym (sub-one (suc k))) ∙ i) (λ p e. refl) refl

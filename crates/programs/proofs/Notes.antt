@@ -10,7 +10,7 @@ use lib.ListN.{length, take, drop, replicate, length-append, take-append-drop, d
 use lib.Seq.{drop-drop, drop-append-le, length-sets}
 use borrow.Author.Tests.{ne-eqb, eqb-true}
 use Rattle.labels.specs.Bytes.{isLetter, isPart, headOf, eqBytes, keyOf}
-use Rattle.labels.specs.Reading.{run, past, skip, nameAt}
+use Rattle.labels.specs.Reading.{runOf, past, skip, nameAt}
 use Rattle.labels.specs.Table.{slotsOf, searchIn, withLabel}
 use Rattle.labels.specs.declared.table.Slot.{Slot}
 use Rattle.labels.specs.declared.table.Slot.the-variants as Slot
@@ -18,9 +18,9 @@ use Rattle.labels.proofs.Spans.{run-past, every-run, run-append, past-head}
 use Rattle.labels.proofs.Steps.{class-inside}
 use Rattle.labels.proofs.Noting.{bytes-equal}
 use Rattle.labels.proofs.Tables.{Tabled, tabled-none, tabled-held, tabled-free, tabled-full, tabled-new}
-use Rattle.lines.specs.Lines.{Told, empty, named, word, wrong}
+use Rattle.lines.specs.Lines.{Saying, empty, named, word, wrong}
 use Rattle.lines.specs.Reader.{lineRead}
-use Rattle.programs.specs.Programs.{Teller, Label, labelAt, onTold, noLabels, labelsFrom, indexOf, linesOf}
+use Rattle.programs.specs.Programs.{Teller, Label, labelAt, onSaying, noLabels, labelsFrom, indexOf, linesOf}
 use Rattle.programs.specs.Code.{reader, tellersOf, Spans, unlessSeen, secondFrom, Gives}
 use Rattle.programs.specs.declared.spans.Span.{Span}
 
@@ -31,10 +31,10 @@ head-append [] v h = absurd (let z : _≡_ {A = ℕ} 0 1 = cc in omega arith)
 head-append (b ∷ u) v h = refl
 
 -- a colon stands somewhere after the name
-run-line : (u v : List ℕ) → headOf (skip (past isPart u)) ≡ 58 → run isPart (u ++ v) ≡ run isPart u
+run-line : (u v : List ℕ) → headOf (skip (past isPart u)) ≡ 58 → runOf isPart (u ++ v) ≡ runOf isPart u
 unfolding headOf past
-run-line u v c = ap (λ (w : List ℕ). run isPart (w ++ v)) (sym (run-past isPart u)) ∙ ap (run isPart) (append-assoc (run isPart u) (past isPart u) v)
-    ∙ run-append isPart (run isPart u) (past isPart u ++ v) (every-run isPart u) (go (past isPart u) c (past-head isPart u refl))
+run-line u v c = ap (λ (w : List ℕ). runOf isPart (w ++ v)) (sym (run-past isPart u)) ∙ ap (runOf isPart) (append-assoc (runOf isPart u) (past isPart u) v)
+    ∙ run-append isPart (runOf isPart u) (past isPart u ++ v) (every-run isPart u) (go (past isPart u) c (past-head isPart u refl))
   where
     go : (w : List ℕ) → headOf (skip w) ≡ 58 → isPart (headOf w) ≡ false → isPart (headOf (w ++ v)) ≡ false
     go [] c h = absurd (omega arith)
@@ -50,31 +50,31 @@ module _ (text : List ℕ) (at k p : ℕ) (letter : isLetter (headOf (drop p (ta
   text-letter = ap (λ (u : List ℕ). isLetter (headOf u)) inside-line ∙ ap isLetter (head-append _ (drop k (drop at text)) letter) ∙ letter
 
   pub text-name : headOf (skip (past isPart (drop p (take k (drop at text))))) ≡ 58 → nameAt text (at + p) ≡ nameAt (take k (drop at text)) p
-  text-name c = ap (run isPart) inside-line ∙ run-line (drop p (take k (drop at text))) (drop k (drop at text)) c
+  text-name c = ap (runOf isPart) inside-line ∙ run-line (drop p (take k (drop at text))) (drop k (drop at text)) c
 
 -- ---- a line's part in the labels, and in the search for a second definition
 module _ (t : List ℕ) (ts : List Teller) (own : ℕ) where
-  labels-by : (x : Told) → lineRead noLabels t ≡ x → labelsFrom (reader t ∷ ts) own
-      ≡ onTold x (labelsFrom ts own) (λ name. labelAt name own ∷ labelsFrom ts own) (λ w. labelsFrom ts (own + 1)) (labelsFrom ts (own + 1))
+  labels-by : (x : Saying) → lineRead noLabels t ≡ x → labelsFrom (reader t ∷ ts) own
+      ≡ onSaying x (labelsFrom ts own) (λ name. labelAt name own ∷ labelsFrom ts own) (λ w. labelsFrom ts (own + 1)) (labelsFrom ts (own + 1))
   unfolding labelsFrom
-  labels-by x e = ap (λ (x : Told). onTold x (labelsFrom ts own) (λ name. labelAt name own ∷ labelsFrom ts own) (λ w. labelsFrom ts (own + 1)) (labelsFrom ts (own + 1))) e
+  labels-by x e = ap (λ (x : Saying). onSaying x (labelsFrom ts own) (λ name. labelAt name own ∷ labelsFrom ts own) (λ w. labelsFrom ts (own + 1)) (labelsFrom ts (own + 1))) e
 
-  pub second-by : (line : ℕ) (seen : List Label) (x : Told) → lineRead noLabels t ≡ x → secondFrom (reader t ∷ ts) line own seen
-      ≡ onTold x (secondFrom ts (line + 1) own seen) (λ name. unlessSeen (indexOf seen name) (secondFrom ts (line + 1) own (seen ++ (labelAt name own ∷ []))) line)
+  pub second-by : (line : ℕ) (seen : List Label) (x : Saying) → lineRead noLabels t ≡ x → secondFrom (reader t ∷ ts) line own seen
+      ≡ onSaying x (secondFrom ts (line + 1) own seen) (λ name. unlessSeen (indexOf seen name) (secondFrom ts (line + 1) own (seen ++ (labelAt name own ∷ []))) line)
       (λ w. secondFrom ts (line + 1) (own + 1) seen) (secondFrom ts (line + 1) (own + 1) seen)
   unfolding secondFrom
   second-by line seen x e =
-      ap (λ (x : Told). onTold x (secondFrom ts (line + 1) own seen) (λ name. unlessSeen (indexOf seen name) (secondFrom ts (line + 1) own (seen ++ (labelAt name own ∷ []))) line)
+      ap (λ (x : Saying). onSaying x (secondFrom ts (line + 1) own seen) (λ name. unlessSeen (indexOf seen name) (secondFrom ts (line + 1) own (seen ++ (labelAt name own ∷ []))) line)
       (λ w. secondFrom ts (line + 1) (own + 1) seen) (secondFrom ts (line + 1) (own + 1) seen)) e
 
 -- what counts as an instruction: a word, or something wrong
-abbrev pub Counts : Told → Type 0
+abbrev pub Counts : Saying → Type 0
 Counts empty = ⊥
 Counts (named name) = ⊥
 Counts (word w) = Unit {0}
 Counts wrong = Unit {0}
 
-pub by-counts : {A : Type 0} (x : Told) → Counts x → (a : A) (b : List ℕ → A) (c : A) → onTold x a b (λ w. c) c ≡ c
+pub by-counts : {A : Type 0} (x : Saying) → Counts x → (a : A) (b : List ℕ → A) (c : A) → onSaying x a b (λ w. c) c ≡ c
 by-counts empty h a b c = absurd h
 by-counts (named name) h a b c = absurd h
 by-counts (word w) h a b c = refl
@@ -165,13 +165,13 @@ module _ (text table : List ℕ) (at before own count second : ℕ) (g : Noting 
     rest : List Teller
     rest = tellersOf (drop (r .next) text)
 
-    split-by : (x : Told) → lineRead noLabels t ≡ x → labelsFrom (tellersOf text) 0
-        ≡ g .seen ++ onTold x (labelsFrom rest own) (λ name. labelAt name own ∷ labelsFrom rest own) (λ w. labelsFrom rest (own + 1)) (labelsFrom rest (own + 1))
+    split-by : (x : Saying) → lineRead noLabels t ≡ x → labelsFrom (tellersOf text) 0
+        ≡ g .seen ++ onSaying x (labelsFrom rest own) (λ name. labelAt name own ∷ labelsFrom rest own) (λ w. labelsFrom rest (own + 1)) (labelsFrom rest (own + 1))
     unfolding rest
     split-by x e = g .split ∙ ap (g .seen ++_) (ap (λ (fs : List Teller). labelsFrom fs own) tellers ∙ labels-by t rest own x e)
 
-    again-by : (x : Told) → lineRead noLabels t ≡ x → secondFrom (tellersOf text) 1 0 []
-        ≡ cond (eqb second 0) (onTold x (secondFrom rest (before + 1 + 1) own (g .seen)) (λ name. unlessSeen (indexOf (g .seen) name) (secondFrom rest (before + 1 + 1) own (g .seen ++ (labelAt name own ∷ []))) (before + 1))
+    again-by : (x : Saying) → lineRead noLabels t ≡ x → secondFrom (tellersOf text) 1 0 []
+        ≡ cond (eqb second 0) (onSaying x (secondFrom rest (before + 1 + 1) own (g .seen)) (λ name. unlessSeen (indexOf (g .seen) name) (secondFrom rest (before + 1 + 1) own (g .seen ++ (labelAt name own ∷ []))) (before + 1))
         (λ w. secondFrom rest (before + 1 + 1) (own + 1) (g .seen)) (secondFrom rest (before + 1 + 1) (own + 1) (g .seen))) second
     unfolding rest
     again-by x e = g .again ∙ ap (λ (n : ℕ). cond (eqb second 0) n second) (ap (λ (fs : List Teller). secondFrom fs (before + 1) own (g .seen)) tellers ∙ second-by t rest own (before + 1) (g .seen) x e)
@@ -180,7 +180,7 @@ module _ (text table : List ℕ) (at before own count second : ℕ) (g : Noting 
     unfolding t rest
     noting-blank e = record { seen = g .seen; split = split-by empty e; tabled = g .tabled; counted = g .counted; room = g .room; again = again-by empty e }
 
-    pub noting-other : (x : Told) → lineRead noLabels (take (r .stop - at) (drop at text)) ≡ x → Counts x → Noting text table (r .next) (before + 1) (own + 1) count second
+    pub noting-other : (x : Saying) → lineRead noLabels (take (r .stop - at) (drop at text)) ≡ x → Counts x → Noting text table (r .next) (before + 1) (own + 1) count second
     unfolding t rest
     noting-other x e c = record {
       seen = g .seen;

@@ -16,14 +16,14 @@ use Rattle.names.specs.Names.{nameKey}
 use Rattle.labels.specs.Reading.{nameAt}
 use Rattle.sums.specs.Sums.{distance}
 use Rattle.sums.specs.Code.{lookIn}
-use Rattle.lines.specs.Lines.{Told, empty, named, word, wrong, baseOf}
+use Rattle.lines.specs.Lines.{Saying, empty, named, word, wrong, baseOf}
 use Rattle.lines.specs.Reader.{lineRead, instructionRead}
 use Rattle.lines.specs.Code.{startOf, labelsIn}
 use Rattle.lines.specs.declared.Start.{Start}
 use Rattle.lines.specs.declared.Start.the-variants as Start
 use Rattle.lines.proofs.Starts.{began}
-use Rattle.programs.specs.Programs.{Teller, Label, labelAt, onTold, noLabels, labelsFrom, indexOf, lookAt, Outcome, refused, made, andWord, unless, assembleFrom, assembleOf, linesOf}
-use Rattle.programs.specs.Code.{reader, tellersOf, unlessSeen, secondFrom, Gives, stepBy, stepOf, onStep, checkFrom, wordsFrom}
+use Rattle.programs.specs.Programs.{Teller, Label, labelAt, onSaying, noLabels, labelsFrom, indexOf, lookAt, Assembly, refused, made, andWord, unless, assembleFrom, assembleOf, linesOf}
+use Rattle.programs.specs.Code.{reader, tellersOf, unlessSeen, secondFrom, Gives, stepBy, lineStep, onStep, checkFrom, wordsFrom}
 use Rattle.programs.specs.declared.checking.Step.{Step}
 use Rattle.programs.specs.declared.checking.Step.the-variants as Step
 use Rattle.programs.specs.declared.checking.Checked.{Checked}
@@ -31,11 +31,11 @@ use Rattle.programs.specs.declared.checking.Checked.the-variants as Chec
 use Rattle.programs.proofs.Notes.{Counts, by-counts, second-by}
 use Rattle.programs.proofs.Meets.{instruction-counts}
 
-unfoldable pub count : ℕ → Outcome → Checked
+unfoldable pub count : ℕ → Assembly → Checked
 count own (refused n) = Checked.Bad n
 count own (made ws) = Checked.Words (own + length ws)
 
-count-word : (own w : ℕ) (o : Outcome) → count (own + 1) o ≡ count own (andWord w o)
+count-word : (own w : ℕ) (o : Assembly) → count (own + 1) o ≡ count own (andWord w o)
 unfolding count
 count-word own w (refused n) = refl
 count-word own w (made ws) = ap Checked.Words (omega arith)
@@ -50,10 +50,10 @@ second-later (t ∷ ts) line own seen = go (t noLabels) (second-later ts (line +
     weaker n (inl z) = inl z
     weaker n (inr h) = inr (omega arith)
 
-    go : (x : Told) → ((own : ℕ) (seen : List Label) → (secondFrom ts (line + 1) own seen ≡ 0) ⊎ (line + 1 ≤ secondFrom ts (line + 1) own seen))
-        → (onTold x (secondFrom ts (line + 1) own seen) (λ name. unlessSeen (indexOf seen name) (secondFrom ts (line + 1) own (seen ++ (labelAt name own ∷ []))) line)
+    go : (x : Saying) → ((own : ℕ) (seen : List Label) → (secondFrom ts (line + 1) own seen ≡ 0) ⊎ (line + 1 ≤ secondFrom ts (line + 1) own seen))
+        → (onSaying x (secondFrom ts (line + 1) own seen) (λ name. unlessSeen (indexOf seen name) (secondFrom ts (line + 1) own (seen ++ (labelAt name own ∷ []))) line)
         (λ w. secondFrom ts (line + 1) (own + 1) seen) (secondFrom ts (line + 1) (own + 1) seen) ≡ 0)
-        ⊎ (line ≤ onTold x (secondFrom ts (line + 1) own seen) (λ name. unlessSeen (indexOf seen name) (secondFrom ts (line + 1) own (seen ++ (labelAt name own ∷ []))) line)
+        ⊎ (line ≤ onSaying x (secondFrom ts (line + 1) own seen) (λ name. unlessSeen (indexOf seen name) (secondFrom ts (line + 1) own (seen ++ (labelAt name own ∷ []))) line)
         (λ w. secondFrom ts (line + 1) (own + 1) seen) (secondFrom ts (line + 1) (own + 1) seen))
     go empty ih = weaker _ (ih own seen)
     go (named name) ih = by (indexOf seen name) ih
@@ -79,11 +79,11 @@ module _ (text table : List ℕ) (labels : List Label) (looks : (own : ℕ) → 
       → checkFrom text table second ts line own ≡ count own (assembleFrom (map reader ts) labels line own seen)
 
   module _ (t : List ℕ) (ts : List (List ℕ)) (ih : Pass ts) (line own : ℕ) (seen : List Label) (h : 0 < line) where
-    Checks : Told → Checked
+    Checks : Saying → Checked
     Checks x = onStep (stepBy (eqb line second) own x) (λ o. checkFrom text table second ts (line + 1) o) (Checked.Bad line)
 
-    Makes : Told → Outcome
-    Makes x = onTold x (assembleFrom (map reader ts) labels (line + 1) own seen)
+    Makes : Saying → Assembly
+    Makes x = onSaying x (assembleFrom (map reader ts) labels (line + 1) own seen)
         (λ name. unless (indexOf seen name) (assembleFrom (map reader ts) labels (line + 1) own (seen ++ (labelAt name own ∷ []))) (refused line))
         (λ w. andWord w (assembleFrom (map reader ts) labels (line + 1) (own + 1) seen)) (refused line)
 
@@ -103,7 +103,7 @@ module _ (text table : List ℕ) (labels : List Label) (looks : (own : ℕ) → 
             ∙ ih (line + 1) own (seen ++ (labelAt name own ∷ [])) (omega arith) e
         go (some i) e = ap (λ (b : Bool). onStep (cond b Step.Bad (Step.Go own)) (λ o. checkFrom text table second ts (line + 1) o) (Checked.Bad line)) (eq-eqb line second (sym e))
 
-    counts : (x : Told) → Counts x → second ≡ secondFrom (map reader ts) (line + 1) (own + 1) seen → Checks x ≡ count own (Makes x)
+    counts : (x : Saying) → Counts x → second ≡ secondFrom (map reader ts) (line + 1) (own + 1) seen → Checks x ≡ count own (Makes x)
     unfolding Pass Checks Makes count
     counts empty c e = absurd c
     counts (named name) c e = absurd c
@@ -113,13 +113,13 @@ module _ (text table : List ℕ) (labels : List Label) (looks : (own : ℕ) → 
     read : second ≡ secondFrom (reader t ∷ map reader ts) line own seen → Checks (lineRead (lookAt labels own) t) ≡ count own (Makes (lineRead (lookAt labels own) t))
     read e = go (startOf t) refl
       where
-        by : (x : Told) → lineRead noLabels t ≡ x → second ≡ onTold x (secondFrom (map reader ts) (line + 1) own seen)
+        by : (x : Saying) → lineRead noLabels t ≡ x → second ≡ onSaying x (secondFrom (map reader ts) (line + 1) own seen)
             (λ name. unlessSeen (indexOf seen name) (secondFrom (map reader ts) (line + 1) own (seen ++ (labelAt name own ∷ []))) line)
             (λ w. secondFrom (map reader ts) (line + 1) (own + 1) seen) (secondFrom (map reader ts) (line + 1) (own + 1) seen)
         by x q = e ∙ second-by t (map reader ts) own line seen x q
 
-        told-as : (x : Told) → lineRead (lookAt labels own) t ≡ x → Checks x ≡ count own (Makes x) → Checks (lineRead (lookAt labels own) t) ≡ count own (Makes (lineRead (lookAt labels own) t))
-        told-as x q r = ap Checks q ∙ r ∙ sym (ap (λ (y : Told). count own (Makes y)) q)
+        told-as : (x : Saying) → lineRead (lookAt labels own) t ≡ x → Checks x ≡ count own (Makes x) → Checks (lineRead (lookAt labels own) t) ≡ count own (Makes (lineRead (lookAt labels own) t))
+        told-as x q r = ap Checks q ∙ r ∙ sym (ap (λ (y : Saying). count own (Makes y)) q)
 
         go : (x : Start) → startOf t ≡ x → Checks (lineRead (lookAt labels own) t) ≡ count own (Makes (lineRead (lookAt labels own) t))
         go Start.Blank q = let s = began t (startOf t) Start.Blank refl q in told-as empty (s (lookAt labels own)) (blank (by empty (s noLabels)))
@@ -133,7 +133,7 @@ module _ (text table : List ℕ) (labels : List Label) (looks : (own : ℕ) → 
         go Start.Other q = let s = began t (startOf t) Start.Other refl q in told-as wrong (s (lookAt labels own)) (counts wrong tt (by wrong (s noLabels)))
 
   pass : (ts : List (List ℕ)) → Pass ts
-  unfolding Pass checkFrom assembleFrom count stepOf Checks Makes
+  unfolding Pass checkFrom assembleFrom count lineStep Checks Makes
   pass [] line own seen h e = ap Checked.Words (omega arith)
   pass (t ∷ ts) line own seen h e =
       ap (λ (l : Form → List ℕ → Option ℤ). onStep (stepBy (eqb line second) own (lineRead l t)) (λ o. checkFrom text table second ts (line + 1) o) (Checked.Bad line)) (looks own)
@@ -144,15 +144,15 @@ module _ (text table : List ℕ) (labels : List Label) (looks : (own : ℕ) → 
   unfolding assembleFrom wordsFrom
   wrote [] line own seen ws e = let q : [] ≡ ws = cc in q
   wrote (t ∷ ts) line own seen ws e =
-      ap (λ (l : Form → List ℕ → Option ℤ). onTold (lineRead l t) (wordsFrom text table ts own) (λ name. wordsFrom text table ts own) (λ w. w ∷ wordsFrom text table ts (own + 1)) (wordsFrom text table ts own)) (looks own)
+      ap (λ (l : Form → List ℕ → Option ℤ). onSaying (lineRead l t) (wordsFrom text table ts own) (λ name. wordsFrom text table ts own) (λ w. w ∷ wordsFrom text table ts (own + 1)) (wordsFrom text table ts own)) (looks own)
       ∙ go (lineRead (lookAt labels own) t) e (wrote ts (line + 1))
     where
-      go : (x : Told)
-          → onTold x (assembleFrom (map reader ts) labels (line + 1) own seen)
+      go : (x : Saying)
+          → onSaying x (assembleFrom (map reader ts) labels (line + 1) own seen)
           (λ name. unless (indexOf seen name) (assembleFrom (map reader ts) labels (line + 1) own (seen ++ (labelAt name own ∷ []))) (refused line))
           (λ w. andWord w (assembleFrom (map reader ts) labels (line + 1) (own + 1) seen)) (refused line) ≡ made ws
           → ((own : ℕ) (seen : List Label) (ws : List ℕ) → assembleFrom (map reader ts) labels (line + 1) own seen ≡ made ws → wordsFrom text table ts own ≡ ws)
-          → onTold x (wordsFrom text table ts own) (λ name. wordsFrom text table ts own) (λ w. w ∷ wordsFrom text table ts (own + 1)) (wordsFrom text table ts own) ≡ ws
+          → onSaying x (wordsFrom text table ts own) (λ name. wordsFrom text table ts own) (λ w. w ∷ wordsFrom text table ts (own + 1)) (wordsFrom text table ts own) ≡ ws
       go empty e ih = ih own seen ws e
       go (named name) e ih = by (indexOf seen name) e
         where
@@ -161,7 +161,7 @@ module _ (text table : List ℕ) (labels : List Label) (looks : (own : ℕ) → 
           by (some i) e = absurd (let z : _≡_ {A = ℕ} 0 1 = cc in omega arith)
       go (word w) e ih = by (assembleFrom (map reader ts) labels (line + 1) (own + 1) seen) refl e
         where
-          by : (o : Outcome) → assembleFrom (map reader ts) labels (line + 1) (own + 1) seen ≡ o → andWord w o ≡ made ws → w ∷ wordsFrom text table ts (own + 1) ≡ ws
+          by : (o : Assembly) → assembleFrom (map reader ts) labels (line + 1) (own + 1) seen ≡ o → andWord w o ≡ made ws → w ∷ wordsFrom text table ts (own + 1) ≡ ws
           by (refused n) q e = absurd (let z : _≡_ {A = ℕ} 0 1 = cc in omega arith)
           by (made vs) q e = let r : w ∷ vs ≡ ws = cc in ap (w ∷_) (ih (own + 1) seen vs q) ∙ r
       go wrong e ih = absurd (let z : _≡_ {A = ℕ} 0 1 = cc in omega arith)

@@ -6,34 +6,34 @@ use Prim.Native.Nat.{ℕ}
 use native.Mathlib.Omega.{arith}
 use lib.IntN.{ℤ}
 use Rattle.opcode.specs.declared.Form.{Form}
-use Rattle.lines.specs.Lines.{Told, empty, named, word, wrong}
+use Rattle.lines.specs.Lines.{Saying, empty, named, word, wrong}
 use Rattle.lines.specs.Reader.{lineRead}
 use Rattle.lines.proofs.Complete.{line-complete}
 use Rattle.lines.proofs.Sound.{line-sound}
-use Rattle.programs.specs.Programs.{Teller, Says, says, unsaid, Tells, end, next}
+use Rattle.programs.specs.Programs.{Teller, LineSays, says, unsaid, Tells, end, next}
 use Rattle.programs.specs.Code.{reader}
 
 -- what a line says is what is read of it
-pub said : (look : Form → List ℕ → Option ℤ) (t : List ℕ) (x : Told) → Says look t x → x ≡ lineRead look t
+pub said : (look : Form → List ℕ → Option ℤ) (t : List ℕ) (x : Saying) → LineSays look t x → x ≡ lineRead look t
 said look t x (says l e) = sym (line-complete look l) ∙ ap (lineRead look) e
 said look t x (unsaid n) = go (lineRead look t) refl
   where
-    spelled : (x : Told) → lineRead look t ≡ x → (x ≡ wrong → ⊥) → wrong ≡ x
+    spelled : (x : Saying) → lineRead look t ≡ x → (x ≡ wrong → ⊥) → wrong ≡ x
     spelled x e w = let k = line-sound look t x e w in sym (n (k .0) (sym (k .1))) ∙ k .2
 
-    go : (x : Told) → lineRead look t ≡ x → wrong ≡ x
+    go : (x : Saying) → lineRead look t ≡ x → wrong ≡ x
     go empty e = spelled empty e (λ h. let z : _≡_ {A = ℕ} 0 1 = cc in omega arith)
     go (named name) e = spelled (named name) e (λ h. let z : _≡_ {A = ℕ} 0 1 = cc in omega arith)
     go (word w) e = spelled (word w) e (λ h. let z : _≡_ {A = ℕ} 0 1 = cc in omega arith)
     go wrong e = refl
 
-pub reading : (look : Form → List ℕ → Option ℤ) (t : List ℕ) → Says look t (lineRead look t)
+pub reading : (look : Form → List ℕ → Option ℤ) (t : List ℕ) → LineSays look t (lineRead look t)
 reading look t = go (lineRead look t) refl
   where
-    spelled : (x : Told) → lineRead look t ≡ x → (x ≡ wrong → ⊥) → Says look t x
-    spelled x e w = let k = line-sound look t x e w in subst (Says look t) (k .2) (says (k .0) (sym (k .1)))
+    spelled : (x : Saying) → lineRead look t ≡ x → (x ≡ wrong → ⊥) → LineSays look t x
+    spelled x e w = let k = line-sound look t x e w in subst (LineSays look t) (k .2) (says (k .0) (sym (k .1)))
 
-    go : (x : Told) → lineRead look t ≡ x → Says look t x
+    go : (x : Saying) → lineRead look t ≡ x → LineSays look t x
     go empty e = spelled empty e (λ h. let z : _≡_ {A = ℕ} 0 1 = cc in omega arith)
     go (named name) e = spelled (named name) e (λ h. let z : _≡_ {A = ℕ} 0 1 = cc in omega arith)
     go (word w) e = spelled (word w) e (λ h. let z : _≡_ {A = ℕ} 0 1 = cc in omega arith)

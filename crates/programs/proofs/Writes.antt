@@ -10,13 +10,13 @@ use types.Run.{OneOf}
 use lib.ListN.{length, set, drop, drop-of-length-le}
 use lib.Seq.{sets}
 use Rattle.memory.specs.Bytes.{bytes}
-use Rattle.lines.specs.Lines.{Told, empty, word, wrong}
+use Rattle.lines.specs.Lines.{Saying, empty, word, wrong}
 use Rattle.lines.specs.Reader.{lineRead}
 use Rattle.lines.specs.Code.{labelsIn, saidOf}
 use Rattle.lines.specs.declared.Said.{Said}
 use Rattle.lines.proofs.Said.{the-type}
 use Rattle.lines.specs.declared.Said.the-variants as Said
-use Rattle.programs.specs.Programs.{linesOf, onTold}
+use Rattle.programs.specs.Programs.{linesOf, onSaying}
 use Rattle.programs.specs.Promise.{bytesOfWords}
 use Rattle.programs.specs.Code.{wordsFrom}
 
@@ -35,12 +35,12 @@ module _ (text table : List ℕ) (own : ℕ) where
   words-end s at h = ap (λ (t : List ℕ). wordsFrom text table (linesOf t) own) (drop-of-length-le s h)
 
   module _ (ls : List (List ℕ)) (t : List ℕ) (ts : List (List ℕ)) (e : ls ≡ t ∷ ts) where
-    words-are : (x : Told) → lineRead (labelsIn text table own) t ≡ x
-        → wordsFrom text table ls own ≡ onTold x (wordsFrom text table ts own) (λ name. wordsFrom text table ts own) (λ w. w ∷ wordsFrom text table ts (own + 1)) (wordsFrom text table ts own)
+    words-are : (x : Saying) → lineRead (labelsIn text table own) t ≡ x
+        → wordsFrom text table ls own ≡ onSaying x (wordsFrom text table ts own) (λ name. wordsFrom text table ts own) (λ w. w ∷ wordsFrom text table ts (own + 1)) (wordsFrom text table ts own)
     unfolding wordsFrom
     words-are x r =
         ap (λ (l : List (List ℕ)). wordsFrom text table l own) e
-        ∙ ap (λ (x : Told). onTold x (wordsFrom text table ts own) (λ name. wordsFrom text table ts own) (λ w. w ∷ wordsFrom text table ts (own + 1)) (wordsFrom text table ts own)) r
+        ∙ ap (λ (x : Saying). onSaying x (wordsFrom text table ts own) (λ name. wordsFrom text table ts own) (λ w. w ∷ wordsFrom text table ts (own + 1)) (wordsFrom text table ts own)) r
 
     pub words-word : (w : ℕ) → lineRead (labelsIn text table own) t ≡ word w → wordsFrom text table ls own ≡ w ∷ wordsFrom text table ts (own + 1)
     words-word w r = words-are (word w) r

@@ -11,14 +11,14 @@ use Rattle.labels.specs.Reading.{nameAt}
 use Rattle.labels.specs.Table.{slotsOf, searchIn, indexIn, withLabel}
 use Rattle.labels.specs.declared.table.Slot.{Slot}
 use Rattle.labels.specs.declared.table.Slot.the-variants as Slot
-use Rattle.lines.specs.Lines.{Told}
+use Rattle.lines.specs.Lines.{Saying}
 use Rattle.lines.specs.Reader.{lineRead}
 use Rattle.lines.specs.Code.{isEnd, startOf, labelsIn}
 use Rattle.lines.specs.declared.Start.{Start}
 use Rattle.lines.specs.declared.Start.the-variants as Start
-use Rattle.programs.specs.Programs.{linesOf, Teller, Label, labelAt, onTold, noLabels, labelsFrom, indexOf}
-use Rattle.told.specs.declared.Told.{Told as Answer}
-use Rattle.programs.specs.Promise.{left, leftOf}
+use Rattle.programs.specs.Programs.{linesOf, Teller, Label, labelAt, onSaying, noLabels, labelsFrom, indexOf}
+use Rattle.told.specs.declared.Told.{Told}
+use Rattle.programs.specs.Promise.{leftCleared, leftOf}
 use Rattle.programs.specs.declared.spans.Span.{Span}
 use Rattle.programs.specs.declared.checking.Step.{Step}
 use Rattle.programs.specs.declared.checking.Step.the-variants as Step
@@ -63,15 +63,15 @@ unlessSeen (some i) a b = b
 unfoldable pub secondFrom : List Teller → ℕ → ℕ → List Label → ℕ
 secondFrom [] line own seen = 0
 secondFrom (t ∷ ts) line own seen =
-    onTold (t noLabels)
+    onSaying (t noLabels)
     (secondFrom ts (line + 1) own seen)
     (λ name. unlessSeen (indexOf seen name) (secondFrom ts (line + 1) own (seen ++ (labelAt name own ∷ []))) line)
     (λ w. secondFrom ts (line + 1) (own + 1) seen)
     (secondFrom ts (line + 1) (own + 1) seen)
 
 -- what is met of a line, and the table after it
-abbrev pub counted : Tally → Tally
-counted t = record { own = t .own + 1; count = t .count; second = t .second }
+abbrev pub oneMore : Tally → Tally
+oneMore t = record { own = t .own + 1; count = t .count; second = t .second }
 
 abbrev pub secondBy : ℕ → ℕ → ℕ
 secondBy second line = cond (eqb second 0) line second
@@ -99,8 +99,8 @@ labelAfter text table place line t =
 abbrev pub startAfter : List ℕ → List ℕ → Start → ℕ → ℕ → Tally → After
 startAfter text table Start.Blank at line t = after (Met.Go t) table
 startAfter text table (Start.Label p) at line t = labelAfter text table (at + p) line t
-startAfter text table (Start.Word p e) at line t = after (Met.Go (counted t)) table
-startAfter text table Start.Other at line t = after (Met.Go (counted t)) table
+startAfter text table (Start.Word p e) at line t = after (Met.Go (oneMore t)) table
+startAfter text table Start.Other at line t = after (Met.Go (oneMore t)) table
 
 -- a line that is not empty and ends in neither a space nor a colon
 abbrev pub isPlain : List ℕ → Bool
@@ -120,11 +120,11 @@ NotedAll text table (Labels.All second) = Gives text table second
 NotedAll text table Labels.Short = length table < 3 * length (labelsFrom (tellersOf text) 0)
 
 -- ---- the first bad line: one that is wrong, or defines a label again
-abbrev pub stepBy : Bool → ℕ → Told → Step
-stepBy again own x = onTold x (Step.Go own) (λ name. cond again Step.Bad (Step.Go own)) (λ w. Step.Go (own + 1)) Step.Bad
+abbrev pub stepBy : Bool → ℕ → Saying → Step
+stepBy again own x = onSaying x (Step.Go own) (λ name. cond again Step.Bad (Step.Go own)) (λ w. Step.Go (own + 1)) Step.Bad
 
-unfoldable pub stepOf : List ℕ → List ℕ → Bool → List ℕ → ℕ → Step
-stepOf text table again t own = stepBy again own (lineRead (labelsIn text table own) t)
+unfoldable pub lineStep : List ℕ → List ℕ → Bool → List ℕ → ℕ → Step
+lineStep text table again t own = stepBy again own (lineRead (labelsIn text table own) t)
 
 abbrev pub onStep : Step → (ℕ → Checked) → Checked → Checked
 onStep (Step.Go own) go b = go own
@@ -133,15 +133,15 @@ onStep Step.Bad go b = b
 unfoldable pub checkFrom : List ℕ → List ℕ → ℕ → List (List ℕ) → ℕ → ℕ → Checked
 checkFrom text table second [] line own = Checked.Words own
 checkFrom text table second (t ∷ ts) line own =
-    onStep (stepOf text table (eqb line second) t own) (λ o. checkFrom text table second ts (line + 1) o) (Checked.Bad line)
+    onStep (lineStep text table (eqb line second) t own) (λ o. checkFrom text table second ts (line + 1) o) (Checked.Bad line)
 
 -- ---- the words of the lines that are instructions
 unfoldable pub wordsFrom : List ℕ → List ℕ → List (List ℕ) → ℕ → List ℕ
 wordsFrom text table [] own = []
 wordsFrom text table (t ∷ ts) own =
-    onTold (lineRead (labelsIn text table own) t) (wordsFrom text table ts own) (λ name. wordsFrom text table ts own)
+    onSaying (lineRead (labelsIn text table own) t) (wordsFrom text table ts own) (λ name. wordsFrom text table ts own)
     (λ w. w ∷ wordsFrom text table ts (own + 1)) (wordsFrom text table ts own)
 
--- ---- what is answered, and left in `words`
-abbrev pub Leaves : List ℕ → List ℕ → List ℕ → Answer → List ℕ → Type 0
-Leaves text words table told new = left told new table ≡ leftOf (tellersOf text) words table
+-- ---- what is answered, and leftCleared in `words`
+abbrev pub Leaves : List ℕ → List ℕ → List ℕ → Told → List ℕ → Type 0
+Leaves text words table told new = leftCleared told new table ≡ leftOf (tellersOf text) words table

@@ -9,29 +9,29 @@ use lib.IntN.{ℤ}
 use Rattle.opcode.specs.declared.Form.{Form}
 use Rattle.labels.specs.Bytes.{eqBytes, headOf}
 use Rattle.sums.specs.Sums.{distance}
-use Rattle.lines.specs.Lines.{Line, lineText, lineTold, Told, empty, named, word, wrong, baseOf}
+use Rattle.lines.specs.Lines.{Line, lineText, lineSaying, Saying, empty, named, word, wrong, baseOf}
 
 -- ---- the lines: an LF ends one, with a CR right before it; a text that ends in a line end has no further line
-abbrev pub push : ℕ → List (List ℕ) → List (List ℕ)
-push b [] = (b ∷ []) ∷ []
-push b (t ∷ ts) = (b ∷ t) ∷ ts
+abbrev pub withByte : ℕ → List (List ℕ) → List (List ℕ)
+withByte b [] = (b ∷ []) ∷ []
+withByte b (t ∷ ts) = (b ∷ t) ∷ ts
 
 unfoldable pub linesOf : List ℕ → List (List ℕ)
 linesOf [] = []
-linesOf (b ∷ t) = cond (eqb b 10) ([] ∷ linesOf t) (cond (eqb b 13 && eqb (headOf t) 10) (linesOf t) (push b (linesOf t)))
+linesOf (b ∷ t) = cond (eqb b 10) ([] ∷ linesOf t) (cond (eqb b 13 && eqb (headOf t) 10) (linesOf t) (withByte b (linesOf t)))
 
 -- ---- what each line says, once it is known what the labels mean there: what a tree with its text says, and that it is wrong if
 -- no tree with its text says anything else
 abbrev pub Teller : Type 0
-Teller = (Form → List ℕ → Option ℤ) → Told
+Teller = (Form → List ℕ → Option ℤ) → Saying
 
-pub data Says (look : Form → List ℕ → Option ℤ) (t : List ℕ) : Told → Type 0 where
-  says : (l : Line) → lineText l ≡ t → Says look t (lineTold l look)
-  unsaid : ((l : Line) → lineText l ≡ t → lineTold l look ≡ wrong) → Says look t wrong
+pub data LineSays (look : Form → List ℕ → Option ℤ) (t : List ℕ) : Saying → Type 0 where
+  says : (l : Line) → lineText l ≡ t → LineSays look t (lineSaying l look)
+  unsaid : ((l : Line) → lineText l ≡ t → lineSaying l look ≡ wrong) → LineSays look t wrong
 
 pub data Tells : List (List ℕ) → List Teller → Type 0 where
   end : Tells [] []
-  next : {t : List ℕ} {f : Teller} {ts : List (List ℕ)} {fs : List Teller} → ((look : Form → List ℕ → Option ℤ) → Says look t (f look)) → Tells ts fs → Tells (t ∷ ts) (f ∷ fs)
+  next : {t : List ℕ} {f : Teller} {ts : List (List ℕ)} {fs : List Teller} → ((look : Form → List ℕ → Option ℤ) → LineSays look t (f look)) → Tells ts fs → Tells (t ∷ ts) (f ∷ fs)
 
 -- ---- labels: a name, and how many instructions stand before it. A line that says nothing right counts as an instruction
 pub record Label : Type 0 where
@@ -41,11 +41,11 @@ pub record Label : Type 0 where
 abbrev pub noLabels : Form → List ℕ → Option ℤ
 noLabels f name = none
 
-abbrev pub onTold : {A : Type 0} → Told → A → (List ℕ → A) → (ℕ → A) → A → A
-onTold empty a b c d = a
-onTold (named name) a b c d = b name
-onTold (word w) a b c d = c w
-onTold wrong a b c d = d
+abbrev pub onSaying : {A : Type 0} → Saying → A → (List ℕ → A) → (ℕ → A) → A → A
+onSaying empty a b c d = a
+onSaying (named name) a b c d = b name
+onSaying (word w) a b c d = c w
+onSaying wrong a b c d = d
 
 abbrev pub labelAt : List ℕ → ℕ → Label
 labelAt name n = record { name = name; index = n }
@@ -53,7 +53,7 @@ labelAt name n = record { name = name; index = n }
 unfoldable pub labelsFrom : List Teller → ℕ → List Label
 labelsFrom [] n = []
 labelsFrom (t ∷ ts) n =
-    onTold (t noLabels) (labelsFrom ts n) (λ name. labelAt name n ∷ labelsFrom ts n) (λ w. labelsFrom ts (n + 1)) (labelsFrom ts (n + 1))
+    onSaying (t noLabels) (labelsFrom ts n) (λ name. labelAt name n ∷ labelsFrom ts n) (λ w. labelsFrom ts (n + 1)) (labelsFrom ts (n + 1))
 
 -- the first label that has a name
 unfoldable pub indexOf : List Label → List ℕ → Option ℕ
@@ -64,27 +64,27 @@ abbrev pub lookAt : List Label → ℕ → Form → List ℕ → Option ℤ
 lookAt labels own f name = distance (baseOf f own) (indexOf labels name)
 
 -- ---- the words, or the number of the first bad line
-pub data Outcome : Type 0 where
-  refused : ℕ → Outcome
-  made : List ℕ → Outcome
+pub data Assembly : Type 0 where
+  refused : ℕ → Assembly
+  made : List ℕ → Assembly
 
-abbrev pub andWord : ℕ → Outcome → Outcome
+abbrev pub andWord : ℕ → Assembly → Assembly
 andWord w (refused n) = refused n
 andWord w (made ws) = made (w ∷ ws)
 
-abbrev pub unless : Option ℕ → Outcome → Outcome → Outcome
+abbrev pub unless : Option ℕ → Assembly → Assembly → Assembly
 unless none a b = a
 unless (some i) a b = b
 
 -- from a line on: `own` instructions stand before it, and the labels `seen`
-unfoldable pub assembleFrom : List Teller → List Label → ℕ → ℕ → List Label → Outcome
+unfoldable pub assembleFrom : List Teller → List Label → ℕ → ℕ → List Label → Assembly
 assembleFrom [] labels line own seen = made []
 assembleFrom (t ∷ ts) labels line own seen =
-    onTold (t (lookAt labels own))
+    onSaying (t (lookAt labels own))
     (assembleFrom ts labels (line + 1) own seen)
     (λ name. unless (indexOf seen name) (assembleFrom ts labels (line + 1) own (seen ++ (labelAt name own ∷ []))) (refused line))
     (λ w. andWord w (assembleFrom ts labels (line + 1) (own + 1) seen))
     (refused line)
 
-abbrev pub assembleOf : List Teller → Outcome
+abbrev pub assembleOf : List Teller → Assembly
 assembleOf ts = assembleFrom ts (labelsFrom ts 0) 1 0 []

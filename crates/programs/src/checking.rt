@@ -5,7 +5,7 @@ use lines::line;
 ghost use mathlib.Core.Path.{_≡_};
 ghost use Prim.Native.Nat.{_<_, _-_, _^_};
 ghost use Rattle.programs.specs.Programs.{linesOf};
-ghost use Rattle.programs.specs.Code.{stepOf, checkFrom};
+ghost use Rattle.programs.specs.Code.{lineStep, checkFrom};
 
 pub(crate) enum Step {
     Go(u64),
@@ -20,7 +20,7 @@ pub(crate) enum Checked {
 // One line, where `own` instructions stand before it; `again` where it defines a label that is defined before it.
 fn one_line(text: &[u8], table: &[u64], again: bool, s: &[u8], own: u64) -> Step
     requires { ⌜ own < 2 ^ 64 - 1 ⌝ }
-    ensures { λ r. ⌜ r ≡ stepOf (now (text .entry)) (now (table .entry)) again (now (s .entry)) own ⌝ }
+    ensures { λ r. ⌜ r ≡ lineStep (now (text .entry)) (now (table .entry)) again (now (s .entry)) own ⌝ }
 {
     match line(s, text, table, own) {
         Said::Blank => Step::Go(own),

@@ -7,7 +7,7 @@ use lines::start_of;
 ghost use mathlib.Core.Path.{_≡_};
 ghost use Prim.Native.Nat.{_+_, _<_, _^_, _-_};
 ghost use lib.ListN.{length, replicate};
-ghost use Rattle.programs.specs.Code.{counted, secondBy, after, labelAfter, isPlain, lineAfter, NotedAll};
+ghost use Rattle.programs.specs.Code.{oneMore, secondBy, after, labelAfter, isPlain, lineAfter, NotedAll};
 
 // What was met so far: instructions, definitions of labels, and the number of the first line that defines one again, or 0.
 pub(crate) struct Tally {
@@ -29,7 +29,7 @@ pub(crate) enum Labels {
 
 fn one_more(t: Tally) -> Tally
     requires { ⌜ t .own < 2 ^ 64 - 1 ⌝ }
-    ensures { λ r. ⌜ r ≡ counted t ⌝ }
+    ensures { λ r. ⌜ r ≡ oneMore t ⌝ }
 {
     Tally {
         own: t.own + 1,

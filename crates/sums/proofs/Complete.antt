@@ -11,8 +11,8 @@ use lib.ListN.{length, length-append}
 use borrow.Author.Tests.{ne-eqb}
 use Rattle.labels.specs.Bytes.{isSpace, isDigit, isLetter, isPart, every, isName, isNumber, decimal, spaces, headOf}
 use Rattle.sums.specs.Sums.{Sign, unsigned, plus, minus, Op, add, sub, Term, Rest, number, label, group, done, then, signText, opText, termText, restText, Sum, sumText, checked, known, signed, join, both, termValue, restValue, sumValue}
-use Rattle.labels.specs.Reading.{tailOf, run, past, skip}
-use Rattle.sums.specs.Reader.{Got, given, onto, digitsRead, numberRead, nameRead, shut, termBy, moreBy, sumBy, sumRead, innerRead, termRead}
+use Rattle.labels.specs.Reading.{tailOf, runOf, past, skip}
+use Rattle.sums.specs.Reader.{Got, given, onto, digitsRead, numberRead, nameRead, closedAfter, termBy, moreBy, sumBy, sumRead, innerRead, termRead}
 use Rattle.labels.proofs.Spans.{both-true, past-stop, past-append, run-append, skip-spaces}
 use Rattle.labels.proofs.Classes.{digit-low, digit-high, digit-no-letter, letter-low, or-true, or-false}
 
@@ -25,7 +25,7 @@ module _ (look : List ℕ → Option ℤ) (d : ℕ) where
       let first = both-true (isDigit b) (every isDigit ds) h .0 in
       let stop = or-false (isLetter (headOf t)) (isDigit (headOf t)) e .1 in
       let ends : past isDigit ((b ∷ ds) ++ t) ≡ t = past-append isDigit (b ∷ ds) t h ∙ past-stop isDigit t stop in
-      let runs : run isDigit ((b ∷ ds) ++ t) ≡ b ∷ ds = run-append isDigit (b ∷ ds) t h stop in
+      let runs : runOf isDigit ((b ∷ ds) ++ t) ≡ b ∷ ds = run-append isDigit (b ∷ ds) t h stop in
       let starts : isDigit (headOf ((b ∷ ds) ++ t)) ≡ true = unfold headOf in first in
       rw (starts, digitsRead) (rw (runs, ends))
 
@@ -58,7 +58,7 @@ module _ (look : List ℕ → Option ℤ) (d : ℕ) where
       let l = letter-low b first in
       let are = parts b name h in
       let ends : past isPart ((b ∷ name) ++ t) ≡ t = past-append isPart (b ∷ name) t are ∙ past-stop isPart t e in
-      let runs : run isPart ((b ∷ name) ++ t) ≡ b ∷ name = run-append isPart (b ∷ name) t are e in
+      let runs : runOf isPart ((b ∷ name) ++ t) ≡ b ∷ name = run-append isPart (b ∷ name) t are e in
       let starts : isLetter (headOf ((b ∷ name) ++ t)) ≡ true = unfold headOf in first in
       let shuts : eqb (headOf ((b ∷ name) ++ t)) 40 ≡ false = unfold headOf in (ne-eqb b 40 (λ z. omega arith)) in
       rw (shuts, termBy) (rw (starts, termBy) (rw (runs, ends)))
@@ -173,12 +173,12 @@ ends-shut : (k : ℕ) (t : List ℕ) → Ends (spaces k ++ (41 ∷ t))
 unfolding headOf past
 ends-shut k t = record { apart = space-apart k (41 ∷ t) refl; no-plus = rw skip-spaces refl; no-minus = rw skip-spaces refl }
 
-shut-law : (o : Option ℤ) (t : List ℕ) → onto shut (given o (41 ∷ t)) ≡ given o t
-unfolding shut headOf tailOf
+shut-law : (o : Option ℤ) (t : List ℕ) → onto closedAfter (given o (41 ∷ t)) ≡ given o t
+unfolding closedAfter headOf tailOf
 shut-law none t = refl
 shut-law (some v) t = refl
 
-open-law : (d : ℕ) (look : List ℕ → Option ℤ) (t : List ℕ) → termRead d look (40 ∷ t) ≡ onto shut (innerRead d look (skip t))
+open-law : (d : ℕ) (look : List ℕ → Option ℤ) (t : List ℕ) → termRead d look (40 ∷ t) ≡ onto closedAfter (innerRead d look (skip t))
 unfolding termRead termBy headOf tailOf
 open-law d look t = refl
 
@@ -190,12 +190,12 @@ group-law g e r k T R look d t h =
     let whole : termText (group g e r k) ++ t ≡ 40 ∷ (spaces g ++ X) = simp append-assoc in
     let to : skip (spaces g ++ X) ≡ X = skip-spaces g X ∙ skip-term e (restText r ++ Y) in
     let last : skip Y ≡ 41 ∷ t = unfold past in skip-spaces k (41 ∷ t) in
-    ap (termRead d look) whole ∙ open-law d look (spaces g ++ X) ∙ ap (λ (u : List ℕ). onto shut (innerRead d look u)) to ∙ deep d last
+    ap (termRead d look) whole ∙ open-law d look (spaces g ++ X) ∙ ap (λ (u : List ℕ). onto closedAfter (innerRead d look u)) to ∙ deep d last
   where
-    deep : (d : ℕ) → skip (spaces k ++ (41 ∷ t)) ≡ 41 ∷ t → onto shut (innerRead d look (termText e ++ (restText r ++ (spaces k ++ (41 ∷ t))))) ≡ given (termValue (group g e r k) look d) t
+    deep : (d : ℕ) → skip (spaces k ++ (41 ∷ t)) ≡ 41 ∷ t → onto closedAfter (innerRead d look (termText e ++ (restText r ++ (spaces k ++ (41 ∷ t))))) ≡ given (termValue (group g e r k) look d) t
     deep zero last = refl
     deep (suc d) last =
-        ap (onto shut) (sum-law e r T R look d (spaces k ++ (41 ∷ t)) (ends-shut k t) ∙ ap (given (restValue r look d (termValue e look d))) last)
+        ap (onto closedAfter) (sum-law e r T R look d (spaces k ++ (41 ∷ t)) (ends-shut k t) ∙ ap (given (restValue r look d (termValue e look d))) last)
         ∙ shut-law (restValue r look d (termValue e look d)) t
 
 done-law : RestLaw done

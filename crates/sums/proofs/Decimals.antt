@@ -8,9 +8,9 @@ use native.Mathlib.Omega.{arith}
 use lib.ListN.{drop}
 use Rattle.labels.specs.Bytes.{isDigit, decimal, decimalFrom, headOf}
 use Rattle.sums.specs.Sums.{checked, signed}
-use Rattle.labels.specs.Reading.{run, past}
+use Rattle.labels.specs.Reading.{runOf, past}
 use Rattle.sums.specs.Reader.{bad, given, digitsRead}
-use Rattle.sums.specs.Code.{signOf, valueOf, seen, Past, readOf}
+use Rattle.sums.specs.Code.{signOf, valueRead, readTo, Past, readOf}
 use Rattle.sums.specs.declared.numbers.Both.{Both}
 use Rattle.sums.specs.declared.numbers.Both.the-variants.{Of, Over}
 use Rattle.labels.proofs.Spans.{tail-drop, past-stop, run-stop, run-on}
@@ -19,38 +19,38 @@ use Rattle.labels.proofs.Steps.{Going, starts, goes-on, class-inside}
 
 pub record Counting (s : List ℕ) (at v n : ℕ) : Type 0 where
   pub going : Going isDigit s at n
-  pub value : decimal (run isDigit (drop at s)) ≡ decimalFrom v (run isDigit (drop n s))
+  pub value : decimal (runOf isDigit (drop at s)) ≡ decimalFrom v (runOf isDigit (drop n s))
 
 pub counts : (s : List ℕ) (n : ℕ) → Counting s n 0 n
 counts s n = record { going = starts isDigit s n; value = refl }
 
 module _ (s : List ℕ) (at v n : ℕ) (g : Counting s at v n) where
-  next : isDigit (headOf (drop n s)) ≡ true → decimalFrom v (run isDigit (drop n s)) ≡ decimalFrom (v * 10 + (headOf (drop n s) - 48)) (run isDigit (drop (n + 1) s))
+  next : isDigit (headOf (drop n s)) ≡ true → decimalFrom v (runOf isDigit (drop n s)) ≡ decimalFrom (v * 10 + (headOf (drop n s) - 48)) (runOf isDigit (drop (n + 1) s))
   unfolding decimalFrom
-  next h = ap (decimalFrom v) (run-on isDigit (drop n s) refl h) ∙ ap (λ (t : List ℕ). decimalFrom (v * 10 + (headOf (drop n s) - 48)) (run isDigit t)) (tail-drop s n)
+  next h = ap (decimalFrom v) (run-on isDigit (drop n s) refl h) ∙ ap (λ (t : List ℕ). decimalFrom (v * 10 + (headOf (drop n s) - 48)) (runOf isDigit t)) (tail-drop s n)
 
   pub counts-on : isDigit (headOf (drop n s)) ≡ true → Counting s at (v * 10 + (headOf (drop n s) - 48)) (n + 1)
   counts-on h = record { going = goes-on isDigit s at n (g .going) refl h; value = g .value ∙ next h }
 
-  pub counted : isDigit (headOf (drop n s)) ≡ false → decimal (run isDigit (drop at s)) ≡ v
+  pub counted : isDigit (headOf (drop n s)) ≡ false → decimal (runOf isDigit (drop at s)) ≡ v
   unfolding decimalFrom
   counted h = g .value ∙ ap (decimalFrom v) (run-stop isDigit (drop n s) h)
 
   moved : isDigit (headOf (drop at s)) ≡ true → isDigit (headOf (drop n s)) ≡ false → at ≡ n → ⊥
   moved a h e = let q : true ≡ false = sym a ∙ ap (λ (k : ℕ). isDigit (headOf (drop k s))) e ∙ h in let k : _≡_ {A = ℕ} 0 1 = cc in omega arith
 
-  pub digits-end : (negative : Bool) (b : Both) → isDigit (headOf (drop at s)) ≡ true → isDigit (headOf (drop n s)) ≡ false → checked (signed (signOf negative) v) ≡ valueOf b
-      → (digitsRead (signOf negative) (drop at s) ≡ seen s (readOf b n)) × Past s at (readOf b n)
+  pub digits-end : (negative : Bool) (b : Both) → isDigit (headOf (drop at s)) ≡ true → isDigit (headOf (drop n s)) ≡ false → checked (signed (signOf negative) v) ≡ valueRead b
+      → (digitsRead (signOf negative) (drop at s) ≡ readTo s (readOf b n)) × Past s at (readOf b n)
   unfolding digitsRead
   digits-end negative b a h e = (
-    ap (λ (c : Bool). cond c (given (checked (signed (signOf negative) (decimal (run isDigit (drop at s))))) (past isDigit (drop at s))) bad) a
+    ap (λ (c : Bool). cond c (given (checked (signed (signOf negative) (decimal (runOf isDigit (drop at s))))) (past isDigit (drop at s))) bad) a
         ∙ ap (λ (m : ℕ). given (checked (signed (signOf negative) m)) (past isDigit (drop at s))) (counted h)
         ∙ ap (λ (o : Option _). given o (past isDigit (drop at s))) e
-        ∙ ap (given (valueOf b)) (g .going .from ∙ past-stop isDigit (drop n s) h) ∙ known b,
+        ∙ ap (given (valueRead b)) (g .going .from ∙ past-stop isDigit (drop n s) h) ∙ known b,
     within b,
   )
     where
-      known : (b : Both) → given (valueOf b) (drop n s) ≡ seen s (readOf b n)
+      known : (b : Both) → given (valueRead b) (drop n s) ≡ readTo s (readOf b n)
       known (Of x) = refl
       known Over = refl
 
@@ -70,11 +70,11 @@ module _ (s : List ℕ) (at v n : ℕ) (g : Counting s at v n) where
   pub digits-over : (negative : Bool) → isDigit (headOf (drop at s)) ≡ true → isDigit (headOf (drop n s)) ≡ true → 922337203685477580 < v → digitsRead (signOf negative) (drop at s) ≡ bad
   unfolding digitsRead
   digits-over negative a h o =
-      let l = grows (v * 10 + (headOf (drop n s) - 48)) (run isDigit (drop (n + 1) s)) in
-      let e : decimal (run isDigit (drop at s)) ≡ decimalFrom (v * 10 + (headOf (drop n s) - 48)) (run isDigit (drop (n + 1) s)) = g .value ∙ next h in
-      ap (λ (c : Bool). cond c (given (checked (signed (signOf negative) (decimal (run isDigit (drop at s))))) (past isDigit (drop at s))) bad) a
-      ∙ ap (λ (o : Option _). given o (past isDigit (drop at s))) (too-many negative (decimal (run isDigit (drop at s))) (omega arith))
+      let l = grows (v * 10 + (headOf (drop n s) - 48)) (runOf isDigit (drop (n + 1) s)) in
+      let e : decimal (runOf isDigit (drop at s)) ≡ decimalFrom (v * 10 + (headOf (drop n s) - 48)) (runOf isDigit (drop (n + 1) s)) = g .value ∙ next h in
+      ap (λ (c : Bool). cond c (given (checked (signed (signOf negative) (decimal (runOf isDigit (drop at s))))) (past isDigit (drop at s))) bad) a
+      ∙ ap (λ (o : Option _). given o (past isDigit (drop at s))) (too-many negative (decimal (runOf isDigit (drop at s))) (omega arith))
 
 pub digits-none : (negative : Bool) (t : List ℕ) → isDigit (headOf t) ≡ false → digitsRead (signOf negative) t ≡ bad
 unfolding digitsRead
-digits-none negative t h = ap (λ (c : Bool). cond c (given (checked (signed (signOf negative) (decimal (run isDigit t)))) (past isDigit t)) bad) h
+digits-none negative t h = ap (λ (c : Bool). cond c (given (checked (signed (signOf negative) (decimal (runOf isDigit t)))) (past isDigit t)) bad) h

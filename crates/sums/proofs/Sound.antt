@@ -11,8 +11,8 @@ use lib.ListN.{length}
 use borrow.Author.Tests.{eqb-true}
 use Rattle.labels.specs.Bytes.{isSpace, isDigit, isLetter, isPart, every, isName, isNumber, decimal, spaces, headOf}
 use Rattle.sums.specs.Sums.{Sign, unsigned, plus, minus, Op, add, sub, Term, Rest, number, label, group, done, then, signText, opText, termText, restText, Sum, sumText, checked, known, signed, join, both, termValue, restValue, sumValue}
-use Rattle.labels.specs.Reading.{tailOf, run, past, skip}
-use Rattle.sums.specs.Reader.{Got, got, bad, given, onto, digitsRead, numberRead, nameRead, shut, termBy, moreBy, sumRead, innerRead, termRead}
+use Rattle.labels.specs.Reading.{tailOf, runOf, past, skip}
+use Rattle.sums.specs.Reader.{Got, got, bad, given, onto, digitsRead, numberRead, nameRead, closedAfter, termBy, moreBy, sumRead, innerRead, termRead}
 use Rattle.labels.proofs.Spans.{both-true, run-past, run-on, every-run, are-spaces}
 use Rattle.sums.proofs.Complete.{sum-is, goes}
 
@@ -29,15 +29,15 @@ unfolding headOf tailOf
 cons-is [] b h n = absurd (n (sym h))
 cons-is (x ∷ t) b h n = ap (_∷ t) h
 
-pub skipped : (t : List ℕ) → t ≡ spaces (length (run isSpace t)) ++ skip t
-skipped t = sym (run-past isSpace t) ∙ ap (_++ skip t) (are-spaces (run isSpace t) (every-run isSpace t))
+pub skipped : (t : List ℕ) → t ≡ spaces (length (runOf isSpace t)) ++ skip t
+skipped t = sym (run-past isSpace t) ∙ ap (_++ skip t) (are-spaces (runOf isSpace t) (every-run isSpace t))
 
 -- ---- a term
 module _ (look : List ℕ → Option ℤ) (d : ℕ) where
   TermSound : List ℕ → ℤ → List ℕ → Type 0
   TermSound t v u = (e : Term) × (t ≡ termText e ++ u) × (termValue e look d ≡ some v)
 
-  is-number : (t : List ℕ) → isDigit (headOf t) ≡ true → isNumber (run isDigit t) ≡ true
+  is-number : (t : List ℕ) → isDigit (headOf t) ≡ true → isNumber (runOf isDigit t) ≡ true
   unfolding isNumber
   is-number t h = rw (run-on isDigit t refl h) (rw (← (run-on isDigit t refl h)) (every-run isDigit t))
 
@@ -45,10 +45,10 @@ module _ (look : List ℕ → Option ℤ) (d : ℕ) where
   unfolding digitsRead
   digits-sound s t v u = go (isDigit (headOf t)) refl
     where
-      go : (c : Bool) → isDigit (headOf t) ≡ c → cond c (given (checked (signed s (decimal (run isDigit t)))) (past isDigit t)) bad ≡ got v u
+      go : (c : Bool) → isDigit (headOf t) ≡ c → cond c (given (checked (signed s (decimal (runOf isDigit t)))) (past isDigit t)) bad ≡ got v u
           → (ds : List ℕ) × (isNumber ds ≡ true) × (t ≡ ds ++ u) × (checked (signed s (decimal ds)) ≡ some v)
-      go true e h = let k = given-got (checked (signed s (decimal (run isDigit t)))) (past isDigit t) v u h in
-          (run isDigit t, is-number t e, sym (run-past isDigit t) ∙ ap (run isDigit t ++_) (k .1), k .0)
+      go true e h = let k = given-got (checked (signed s (decimal (runOf isDigit t)))) (past isDigit t) v u h in
+          (runOf isDigit t, is-number t e, sym (run-past isDigit t) ∙ ap (runOf isDigit t ++_) (k .1), k .0)
       go false e h = bad-got h
 
   number-sound : (t : List ℕ) (v : ℤ) (u : List ℕ) → numberRead t ≡ got v u → TermSound t v u
@@ -71,17 +71,17 @@ module _ (look : List ℕ → Option ℤ) (d : ℕ) where
   unfolding every
   every-tail p b t h = both-true (p b) (every p t) h .1
 
-  pub is-name : (t : List ℕ) → isLetter (headOf t) ≡ true → isName (run isPart t) ≡ true
+  pub is-name : (t : List ℕ) → isLetter (headOf t) ≡ true → isName (runOf isPart t) ≡ true
   unfolding isName
   is-name t h =
       let part : isPart (headOf t) ≡ true = simp h in
       let on = run-on isPart t refl part in
-      rw on (rw h (every-tail isPart (headOf t) (run isPart (tailOf t)) (rw on at (every-run isPart t))))
+      rw on (rw h (every-tail isPart (headOf t) (runOf isPart (tailOf t)) (rw on at (every-run isPart t))))
 
   name-sound : (t : List ℕ) (v : ℤ) (u : List ℕ) → isLetter (headOf t) ≡ true → nameRead look t ≡ got v u → TermSound t v u
   unfolding nameRead TermSound termText termValue
-  name-sound t v u e h = let k = given-got (known (look (run isPart t))) (past isPart t) v u h in
-      (label (run isPart t) (is-name t e), sym (run-past isPart t) ∙ ap (run isPart t ++_) (k .1), k .0)
+  name-sound t v u e h = let k = given-got (known (look (runOf isPart t))) (past isPart t) v u h in
+      (label (runOf isPart t) (is-name t e), sym (run-past isPart t) ∙ ap (runOf isPart t ++_) (k .1), k .0)
 
 -- ---- a sum, whose reader has passed the spaces after it
 SumSound : (List ℕ → Option ℤ) → ℕ → Type 0
@@ -91,8 +91,8 @@ InnerSound : (List ℕ → Option ℤ) → ℕ → Type 0
 InnerSound look zero = Unit {0}
 InnerSound look (suc d) = SumSound look d
 
-shut-got : (w : Got) (v : ℤ) (u : List ℕ) → onto shut w ≡ got v u → w ≡ got v (41 ∷ u)
-unfolding shut
+shut-got : (w : Got) (v : ℤ) (u : List ℕ) → onto closedAfter w ≡ got v u → w ≡ got v (41 ∷ u)
+unfolding closedAfter
 shut-got bad v u h = bad-got h
 shut-got (got x t) v u h = go (eqb (headOf t) 41) refl h
   where
@@ -101,12 +101,12 @@ shut-got (got x t) v u h = go (eqb (headOf t) 41) refl h
     go false e h = bad-got h
 
 module _ (look : List ℕ → Option ℤ) where
-  group-sound : (d : ℕ) → InnerSound look d → (t : List ℕ) (v : ℤ) (u : List ℕ) → headOf t ≡ 40 → onto shut (innerRead d look (skip (tailOf t))) ≡ got v u → TermSound look d t v u
+  group-sound : (d : ℕ) → InnerSound look d → (t : List ℕ) (v : ℤ) (u : List ℕ) → headOf t ≡ 40 → onto closedAfter (innerRead d look (skip (tailOf t))) ≡ got v u → TermSound look d t v u
   unfolding InnerSound SumSound TermSound termText termValue
   group-sound zero I t v u e h = bad-got h
   group-sound (suc d) I t v u e h =
       let k = I (skip (tailOf t)) v (41 ∷ u) (shut-got (sumRead d look (skip (tailOf t))) v u h) in
-      let g : ℕ = length (run isSpace (tailOf t)) in (
+      let g : ℕ = length (runOf isSpace (tailOf t)) in (
         group g (k .0 .first) (k .0 .rest) (k .1 .0),
         cons-is t 40 e (λ z. omega arith) ∙ ap (40 ∷_) (skipped (tailOf t) ∙ ap (spaces g ++_) (k .1 .1) ∙ simp append-assoc),
         k .1 .2,
@@ -120,7 +120,7 @@ module _ (look : List ℕ → Option ℤ) where
       go′ true e h = name-sound look d t v u e h
       go′ false e h = number-sound look d t v u h
 
-      go : (c : Bool) → eqb (headOf t) 40 ≡ c → cond c (onto shut (innerRead d look (skip (tailOf t)))) (cond (isLetter (headOf t)) (nameRead look t) (numberRead t)) ≡ got v u → TermSound look d t v u
+      go : (c : Bool) → eqb (headOf t) 40 ≡ c → cond c (onto closedAfter (innerRead d look (skip (tailOf t)))) (cond (isLetter (headOf t)) (nameRead look t) (numberRead t)) ≡ got v u → TermSound look d t v u
       go true e h = group-sound d I t v u (eqb-true (headOf t) 40 e) h
       go false e h = go′ (isLetter (headOf t)) refl h
 
@@ -144,8 +144,8 @@ module _ (look : List ℕ → Option ℤ) where
       let k = goes-got (termRead d look) f op v (termRead d look (skip (tailOf (skip t)))) w u h in
       let y = term-sound d I (skip (tailOf (skip t))) (k .0) (k .1 .0) (k .1 .1) in
       let r = more (k .1 .2 .0) (k .1 .0) w u (k .1 .2 .2) in
-      let g : ℕ = length (run isSpace t) in
-      let i : ℕ = length (run isSpace (tailOf (skip t))) in (
+      let g : ℕ = length (runOf isSpace t) in
+      let i : ℕ = length (runOf isSpace (tailOf (skip t))) in (
         then g op i (y .0) (r .0),
         (
           r .1 .0,
@@ -160,7 +160,7 @@ module _ (look : List ℕ → Option ℤ) where
   more-sound d I (suc f) v t w u h = go (more-sound d I f) (eqb (headOf (skip t)) 43) refl h
     where
       go″ : got v (skip t) ≡ got w u → RestSound d t v w u
-      go″ h = (done, (length (run isSpace t), skipped t ∙ ap (spaces (length (run isSpace t)) ++_) (cc), cc))
+      go″ h = (done, (length (runOf isSpace t), skipped t ∙ ap (spaces (length (runOf isSpace t)) ++_) (cc), cc))
 
       go′ : ((z : ℤ) (t : List ℕ) (w : ℤ) (u : List ℕ) → moreBy (termRead d look) f z (skip t) ≡ got w u → RestSound d t z w u)
           → (c : Bool) → eqb (headOf (skip t)) 45 ≡ c → cond c (goes (termRead d look) f sub v (termRead d look (skip (tailOf (skip t))))) (got v (skip t)) ≡ got w u → RestSound d t v w u

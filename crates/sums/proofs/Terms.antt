@@ -12,9 +12,9 @@ use lib.ListN.{length, drop, length-drop}
 use borrow.Author.Tests.{eq-eqb, ne-eqb}
 use Rattle.labels.specs.Bytes.{isSpace, isLetter, isPart, headOf}
 use Rattle.sums.specs.Sums.{add, sub, plus, minus, checked, known, join, dif}
-use Rattle.labels.specs.Reading.{tailOf, run, past, skip, Passed}
-use Rattle.sums.specs.Reader.{Got, got, bad, given, onto, digitsRead, numberRead, nameRead, shut, termBy, moreBy, sumRead, innerRead, termRead}
-use Rattle.sums.specs.Code.{of64, opOf, signAt, lookIn, seen, Past}
+use Rattle.labels.specs.Reading.{tailOf, runOf, past, skip, Passed}
+use Rattle.sums.specs.Reader.{Got, got, bad, given, onto, digitsRead, numberRead, nameRead, closedAfter, termBy, moreBy, sumRead, innerRead, termRead}
+use Rattle.sums.specs.Code.{of64, opOf, signAt, lookIn, readTo, Past}
 use Rattle.labels.specs.Table.{indexIn, foundBy}
 use Rattle.labels.specs.declared.table.Found.the-variants.{At, Nothing}
 use Rattle.sums.specs.declared.Read.{Read}
@@ -54,15 +54,15 @@ found-at none m i n e = absurd (let z : _≡_ {A = ℕ} 0 1 = cc in omega arith)
 found-at (some j) m i n e = (cc, cc)
 
 module _ (text table : List ℕ) (base : ℕ) (t : List ℕ) where
-  pub name-none : indexIn text table (run isPart t) ≡ none → nameRead (lookIn text table base) t ≡ bad
+  pub name-none : indexIn text table (runOf isPart t) ≡ none → nameRead (lookIn text table base) t ≡ bad
   unfolding nameRead lookIn known
   name-none h = simp h
 
-  name-some : (i : ℕ) → indexIn text table (run isPart t) ≡ some i → nameRead (lookIn text table base) t ≡ given (checked (dif (4 * i) (4 * base))) (past isPart t)
+  name-some : (i : ℕ) → indexIn text table (runOf isPart t) ≡ some i → nameRead (lookIn text table base) t ≡ given (checked (dif (4 * i) (4 * base))) (past isPart t)
   unfolding nameRead lookIn known
   name-some i h = simp h
 
-  pub name-is : (i : ℕ) (o : Option ℤ) → indexIn text table (run isPart t) ≡ some i → checked (dif (4 * i) (4 * base)) ≡ o → nameRead (lookIn text table base) t ≡ given o (past isPart t)
+  pub name-is : (i : ℕ) (o : Option ℤ) → indexIn text table (runOf isPart t) ≡ some i → checked (dif (4 * i) (4 * base)) ≡ o → nameRead (lookIn text table base) t ≡ given o (past isPart t)
   name-is i o h e = name-some i h ∙ ap (λ (x : Option ℤ). given x (past isPart t)) e
 
 pub name-past : (s : List ℕ) (at n : ℕ) → isLetter (headOf (drop at s)) ≡ true → Passed isPart s at n → (at < n) × (n ≤ length s)
@@ -77,18 +77,18 @@ name-past s at n h p =
 
 -- ---- a group
 module _ (s : List ℕ) where
-  pub shut-yes : (r : Read) (v n : ℕ) → r ≡ Value v n → headOf (drop n s) ≡ 41 → onto shut (seen s r) ≡ seen s (Value v (n + 1))
-  unfolding shut
-  shut-yes r v n e h = ap (λ (x : Read). onto shut (seen s x)) e ∙ simp (eq-eqb _ _ h) (ap (got (of64 v)) (tail-drop s n))
+  pub shut-yes : (r : Read) (v n : ℕ) → r ≡ Value v n → headOf (drop n s) ≡ 41 → onto closedAfter (readTo s r) ≡ readTo s (Value v (n + 1))
+  unfolding closedAfter
+  shut-yes r v n e h = ap (λ (x : Read). onto closedAfter (readTo s x)) e ∙ simp (eq-eqb _ _ h) (ap (got (of64 v)) (tail-drop s n))
 
-  pub shut-no : (r : Read) (v n : ℕ) → r ≡ Value v n → (headOf (drop n s) ≡ 41 → ⊥) → onto shut (seen s r) ≡ bad
-  unfolding shut
-  shut-no r v n e h = ap (λ (x : Read). onto shut (seen s x)) e ∙ simp (ne-eqb _ _ h)
+  pub shut-no : (r : Read) (v n : ℕ) → r ≡ Value v n → (headOf (drop n s) ≡ 41 → ⊥) → onto closedAfter (readTo s r) ≡ bad
+  unfolding closedAfter
+  shut-no r v n e h = ap (λ (x : Read). onto closedAfter (readTo s x)) e ∙ simp (ne-eqb _ _ h)
 
 module _ (s : List ℕ) (at : ℕ) (d : ℕ) (look : List ℕ → Option ℤ) where
-  term-open : headOf (drop at s) ≡ 40 → termRead d look (drop at s) ≡ onto shut (innerRead d look (skip (drop (at + 1) s)))
+  term-open : headOf (drop at s) ≡ 40 → termRead d look (drop at s) ≡ onto closedAfter (innerRead d look (skip (drop (at + 1) s)))
   unfolding termRead termBy
-  term-open h = simp (eq-eqb _ _ h) (ap (λ (t : List ℕ). onto shut (innerRead d look (skip t))) (tail-drop s at))
+  term-open h = simp (eq-eqb _ _ h) (ap (λ (t : List ℕ). onto closedAfter (innerRead d look (skip t))) (tail-drop s at))
 
   pub term-name : isLetter (headOf (drop at s)) ≡ true → (headOf (drop at s) ≡ 40 → ⊥) → termRead d look (drop at s) ≡ nameRead look (drop at s)
   unfolding termRead termBy
@@ -99,10 +99,10 @@ module _ (s : List ℕ) (at : ℕ) (d : ℕ) (look : List ℕ → Option ℤ) wh
   term-number h n = simp (ne-eqb _ _ n, h)
 
   pub term-flat : headOf (drop at s) ≡ 40 → d ≡ 0 → termRead d look (drop at s) ≡ bad
-  term-flat h z = term-open h ∙ ap (λ (k : ℕ). onto shut (innerRead k look (skip (drop (at + 1) s)))) z
+  term-flat h z = term-open h ∙ ap (λ (k : ℕ). onto closedAfter (innerRead k look (skip (drop (at + 1) s)))) z
 
-  pub term-deep : (m : ℕ) (r : Read) → headOf (drop at s) ≡ 40 → (d ≡ 0 → ⊥) → Passed isSpace s (at + 1) m → sumRead (d - 1) look (drop m s) ≡ seen s r → termRead d look (drop at s) ≡ onto shut (seen s r)
-  term-deep m r h n p e = term-open h ∙ ap (onto shut) (ap (innerRead d look) (sym (p .rest)) ∙ inner d n (drop m s) ∙ e)
+  pub term-deep : (m : ℕ) (r : Read) → headOf (drop at s) ≡ 40 → (d ≡ 0 → ⊥) → Passed isSpace s (at + 1) m → sumRead (d - 1) look (drop m s) ≡ readTo s r → termRead d look (drop at s) ≡ onto closedAfter (readTo s r)
+  term-deep m r h n p e = term-open h ∙ ap (onto closedAfter) (ap (innerRead d look) (sym (p .rest)) ∙ inner d n (drop m s) ∙ e)
     where
       inner : (d : ℕ) → (d ≡ 0 → ⊥) → (t : List ℕ) → innerRead d look t ≡ sumRead (d - 1) look t
       inner zero n t = absurd (n refl)

@@ -18,9 +18,9 @@ use Rattle.sums.specs.declared.numbers.Both.the-variants.{Of, Over}
 abbrev pub of64 : ℕ → ℤ
 of64 n = dif n (2 ^ 63)
 
-abbrev pub valueOf : Both → Option ℤ
-valueOf (Of n) = some (of64 n)
-valueOf Over = none
+abbrev pub valueRead : Both → Option ℤ
+valueRead (Of n) = some (of64 n)
+valueRead Over = none
 
 abbrev pub signOf : Bool → Sign
 signOf true = minus
@@ -36,9 +36,9 @@ unfoldable pub lookIn : List ℕ → List ℕ → ℕ → List ℕ → Option �
 lookIn text table base name = distance base (indexIn text table name)
 
 -- what an answer says of the text s
-abbrev pub seen : List ℕ → Read → Got
-seen s (Value v n) = got (of64 v) (drop n s)
-seen s Bad = bad
+abbrev pub readTo : List ℕ → Read → Got
+readTo s (Value v n) = got (of64 v) (drop n s)
+readTo s Bad = bad
 
 abbrev pub Past : List ℕ → ℕ → Read → Type 0
 Past s at (Value v n) = (at < n) × (n ≤ length s)

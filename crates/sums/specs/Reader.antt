@@ -7,7 +7,7 @@ use lib.Dec.{eqb}
 use lib.IntN.{ℤ}
 use lib.ListN.{length}
 use Rattle.labels.specs.Bytes.{isDigit, isLetter, isPart, decimal, headOf}
-use Rattle.labels.specs.Reading.{tailOf, run, past, skip}
+use Rattle.labels.specs.Reading.{tailOf, runOf, past, skip}
 use Rattle.sums.specs.Sums.{Sign, unsigned, plus, minus, add, sub, checked, known, signed, join}
 
 pub data Got : Type 0 where
@@ -23,21 +23,21 @@ onto go (got v t) = go v t
 onto go bad = bad
 
 unfoldable pub digitsRead : Sign → List ℕ → Got
-digitsRead s t = cond (isDigit (headOf t)) (given (checked (signed s (decimal (run isDigit t)))) (past isDigit t)) bad
+digitsRead s t = cond (isDigit (headOf t)) (given (checked (signed s (decimal (runOf isDigit t)))) (past isDigit t)) bad
 
 unfoldable pub numberRead : List ℕ → Got
 numberRead t = cond (eqb (headOf t) 43) (digitsRead plus (tailOf t)) (cond (eqb (headOf t) 45) (digitsRead minus (tailOf t)) (digitsRead unsigned t))
 
 unfoldable pub nameRead : (List ℕ → Option ℤ) → List ℕ → Got
-nameRead look t = given (known (look (run isPart t))) (past isPart t)
+nameRead look t = given (known (look (runOf isPart t))) (past isPart t)
 
-unfoldable pub shut : ℤ → List ℕ → Got
-shut v t = cond (eqb (headOf t) 41) (got v (tailOf t)) bad
+unfoldable pub closedAfter : ℤ → List ℕ → Got
+closedAfter v t = cond (eqb (headOf t) 41) (got v (tailOf t)) bad
 
 -- a term, where `inner` reads a sum one level down
 unfoldable pub termBy : (List ℕ → Got) → (List ℕ → Option ℤ) → List ℕ → Got
 termBy inner look t =
-    cond (eqb (headOf t) 40) (onto shut (inner (skip (tailOf t))))
+    cond (eqb (headOf t) 40) (onto closedAfter (inner (skip (tailOf t))))
     (cond (isLetter (headOf t)) (nameRead look t) (numberRead t))
 
 -- what follows a sum of v: at most `fuel` more terms

@@ -9,7 +9,7 @@ ghost use Prim.Native.Nat.{_-_, _≤_};
 ghost use lib.ListN.{drop};
 ghost use Rattle.labels.specs.Bytes.{headOf};
 ghost use Rattle.sums.specs.Reader.{digitsRead, numberRead};
-ghost use Rattle.sums.specs.Code.{signOf, readOf, seen, Past};
+ghost use Rattle.sums.specs.Code.{signOf, readOf, readTo, Past};
 
 fn worth(c: u8) -> u64
     requires { ⌜ (48 ≤ c) ⌝ }
@@ -29,7 +29,7 @@ pub(crate) fn within(b: Both, n: usize) -> Read
 
 // The number that the digits at a place stand for.
 fn digits(s: &[u8], at: usize, negative: bool) -> Read
-    ensures { λ r. ⌜ (digitsRead (signOf negative) (drop at (now (s .entry))) ≡ seen (now (s .entry)) r) × Past (now (s .entry)) at r ⌝ }
+    ensures { λ r. ⌜ (digitsRead (signOf negative) (drop at (now (s .entry))) ≡ readTo (now (s .entry)) r) × Past (now (s .entry)) at r ⌝ }
 {
     if !digit(byte(s, at)) {
         return Read::Bad;
@@ -50,7 +50,7 @@ fn digits(s: &[u8], at: usize, negative: bool) -> Read
 }
 
 pub(crate) fn number(s: &[u8], at: usize) -> Read
-    ensures { λ r. ⌜ (numberRead (drop at (now (s .entry))) ≡ seen (now (s .entry)) r) × Past (now (s .entry)) at r ⌝ }
+    ensures { λ r. ⌜ (numberRead (drop at (now (s .entry))) ≡ readTo (now (s .entry)) r) × Past (now (s .entry)) at r ⌝ }
 {
     let c = byte(s, at);
     if c == b'+' {

@@ -15,8 +15,8 @@ ghost use mathlib.Core.Path.{_≡_};
 ghost use mathlib.Core.Bool.{true};
 ghost use lib.ListN.{drop};
 ghost use Rattle.labels.specs.Bytes.{isLetter, headOf};
-ghost use Rattle.sums.specs.Reader.{nameRead, shut, onto, sumRead, termRead};
-ghost use Rattle.sums.specs.Code.{lookIn, signAt, seen, Past};
+ghost use Rattle.sums.specs.Reader.{nameRead, closedAfter, onto, sumRead, termRead};
+ghost use Rattle.sums.specs.Code.{lookIn, signAt, readTo, Past};
 
 // What is read from a place: a value, and the place after it.
 pub enum Read {
@@ -27,7 +27,7 @@ pub enum Read {
 // The label at a place.
 fn named(s: &[u8], text: &[u8], table: &[u64], base: u64, at: usize) -> Read
     requires { ⌜ isLetter (headOf (drop at (now s))) ≡ true ⌝ }
-    ensures { λ r. ⌜ (nameRead (lookIn (now (text .entry)) (now (table .entry)) base) (drop at (now (s .entry))) ≡ seen (now (s .entry)) r) × Past (now (s .entry)) at r ⌝ }
+    ensures { λ r. ⌜ (nameRead (lookIn (now (text .entry)) (now (table .entry)) base) (drop at (now (s .entry))) ≡ readTo (now (s .entry)) r) × Past (now (s .entry)) at r ⌝ }
 {
     let Found::At(i, n) = find(text, table, s, at) else {
         return Read::Bad;
@@ -55,7 +55,7 @@ fn sign(s: &[u8], at: usize) -> u8
 // A parenthesis after what was read.
 fn closed(s: &[u8], at: usize, inner: Read) -> Read
     requires { ⌜ Past (now s) at inner ⌝ }
-    ensures { λ r. ⌜ (onto shut (seen (now (s .entry)) inner) ≡ seen (now (s .entry)) r) × Past (now (s .entry)) at r ⌝ }
+    ensures { λ r. ⌜ (onto closedAfter (readTo (now (s .entry)) inner) ≡ readTo (now (s .entry)) r) × Past (now (s .entry)) at r ⌝ }
 {
     let Read::Value(v, n) = inner else {
         return Read::Bad;
@@ -69,7 +69,7 @@ fn closed(s: &[u8], at: usize, inner: Read) -> Read
 
 // sum = term {("+" | "-") term}; what is read ends after the spaces that follow
 pub fn sum(s: &[u8], text: &[u8], table: &[u64], base: u64, at: usize, depth: u8) -> Read
-    ensures { λ r. ⌜ (sumRead depth (lookIn (now (text .entry)) (now (table .entry)) base) (drop at (now (s .entry))) ≡ seen (now (s .entry)) r) × Past (now (s .entry)) at r ⌝ }
+    ensures { λ r. ⌜ (sumRead depth (lookIn (now (text .entry)) (now (table .entry)) base) (drop at (now (s .entry))) ≡ readTo (now (s .entry)) r) × Past (now (s .entry)) at r ⌝ }
 {
     let first = term(s, text, table, base, at, depth);
     let Read::Value(v0, n0) = first else {
@@ -98,7 +98,7 @@ pub fn sum(s: &[u8], text: &[u8], table: &[u64], base: u64, at: usize, depth: u8
 
 // term = number | label | "(" sum ")"
 fn term(s: &[u8], text: &[u8], table: &[u64], base: u64, at: usize, depth: u8) -> Read
-    ensures { λ r. ⌜ (termRead depth (lookIn (now (text .entry)) (now (table .entry)) base) (drop at (now (s .entry))) ≡ seen (now (s .entry)) r) × Past (now (s .entry)) at r ⌝ }
+    ensures { λ r. ⌜ (termRead depth (lookIn (now (text .entry)) (now (table .entry)) base) (drop at (now (s .entry))) ≡ readTo (now (s .entry)) r) × Past (now (s .entry)) at r ⌝ }
 {
     let c = byte(s, at);
     if c == b'(' {

@@ -27,7 +27,7 @@ use Rattle.instruction.specs.declared.Instruction.{Instruction}
 use Rattle.instruction.specs.declared.Parts.{Parts}
 use Rattle.instruction.proofs.Wholes.{kept, parts-kept}
 use Rattle.refusal.specs.Stops.{refusalOf}
-use Rattle.words.specs.Words.{partsFit, encodedIn, decodeIn, wordOf as wordIs}
+use Rattle.words.specs.Words.{partsFit, encodedIn, decodeIn, wordOf}
 use Rattle.words.specs.declared.Encoded.{Encoded}
 use Rattle.words.specs.declared.Encoded.the-variants as E
 use Rattle.words.specs.declared.Decoded.{Decoded}
@@ -38,10 +38,10 @@ use Rattle.labels.specs.Bytes.{isDigit, every}
 use Rattle.sums.specs.Sums.{Sum, Term, done, number, unsigned, minus, sumText, sumValue, termText, restText, termValue, restValue, checked, fits64}
 use Rattle.labels.proofs.Spans.{both-true}
 use Rattle.labels.proofs.Classes.{digit-low}
-use Rattle.lines.specs.Lines.{kindsOf, reg, sum, Operands, without, last, more, Line, instruction, operandsText, argumentsText, lineText, push as pushValue, operandsValues, bits, partsBy, wordIn, wordOf, word, toldBy, lineTold}
+use Rattle.lines.specs.Lines.{kindsOf, reg, sum, Operands, without, last, more, Line, instruction, operandsText, argumentsText, lineText, pushed, operandsValues, bitsAt, partsBy, wordMade, wordFor, word, saidWord, lineSaying}
 use Rattle.lines.specs.Reader.{lineRead}
 use Rattle.lines.proofs.Complete.{line-complete, append-none}
-use Rattle.programs.specs.Programs.{push, linesOf, Teller, made, andWord, assembleFrom, assembleOf}
+use Rattle.programs.specs.Programs.{withByte, linesOf, Teller, made, andWord, assembleFrom, assembleOf}
 use Rattle.printing.specs.Print.{digitsBy, numberText, operandTexts, withCommas, spelled, printLine, Printed, text, undecodable, printedBy, printOf}
 use Rattle.text.proofs.Digits.{written}
 use Rattle.programs.specs.Code.{reader}
@@ -114,13 +114,13 @@ module _ (p : Parts) (a : ltb (p .a) 16 ≡ true) (b : ltb (p .b) 16 ≡ true) (
 
   two-values : (n : Numeral (p .imm)) (look : List ℕ → Option ℤ) → operandsValues (with-number n) look ≡ some (pos (p .a) ∷ (pos (p .b) ∷ (n .value look .0 ∷ [])))
   unfolding with-number operandsValues
-  two-values n look = ap (λ (o : Option ℤ). pushValue (some (pos (p .a))) (pushValue (some (pos (p .b))) (pushValue o (some [])))) (n .value look .1)
+  two-values n look = ap (λ (o : Option ℤ). pushed (some (pos (p .a))) (pushed (some (pos (p .b))) (pushed o (some [])))) (n .value look .1)
 
   -- the four forms with two registers and a number
   two : (f : Form) → (n : Numeral (p .imm)) → (to : Operands (kindsOf I) → Operands (kindsOf f))
       → argumentsText (to (with-number n)) ≡ argumentsText (with-number n) → operandTexts f p ≡ operandTexts I p
       → ((look : List ℕ → Option ℤ) → operandsValues (to (with-number n)) look ≡ operandsValues (with-number n) look)
-      → ((vs : List ℤ) → bits vs 0 ≡ p .a → bits vs 1 ≡ p .b → bits vs 2 ≡ p .imm → partsBy (p .op) f vs ≡ kept f p) → Arguments f p
+      → ((vs : List ℤ) → bitsAt vs 0 ≡ p .a → bitsAt vs 1 ≡ p .b → bitsAt vs 2 ≡ p .imm → partsBy (p .op) f vs ≡ kept f p) → Arguments f p
   two f n to e t v k = record {
     operands = to (with-number n);
     text = e ∙ two-text n ∙ ap spelled (sym t);
@@ -132,7 +132,7 @@ module _ (p : Parts) (a : ltb (p .a) 16 ≡ true) (b : ltb (p .b) 16 ≡ true) (
   jump n = record {
     operands = more 0 (reg (p .a) a) 0 (last 1 (sum (n .tree)) 0);
     text = ap (λ (t : List ℕ). 32 ∷ (registerText (p .a) ++ (44 ∷ (32 ∷ (t ++ []))))) (n .text);
-    values = λ look. (pos (p .a) ∷ (n .value look .0 ∷ []), ap (λ (o : Option ℤ). pushValue (some (pos (p .a))) (pushValue o (some []))) (n .value look .1), ap (λ (i : ℕ). record { op = p .op; a = p .a; b = 0; c = 0; imm = i }) (n .value look .2));
+    values = λ look. (pos (p .a) ∷ (n .value look .0 ∷ []), ap (λ (o : Option ℤ). pushed (some (pos (p .a))) (pushed o (some []))) (n .value look .1), ap (λ (i : ℕ). record { op = p .op; a = p .a; b = 0; c = 0; imm = i }) (n .value look .2));
   }
 
   arguments : (f : Form) → immFits f (p .imm) ≡ true → Arguments f p
@@ -140,19 +140,19 @@ module _ (p : Parts) (a : ltb (p .a) 16 ≡ true) (b : ltb (p .b) 16 ≡ true) (
   arguments R e = three
   arguments I e = two I (numeral (p .imm) (narrow 16 (p .imm) (omega arith) e)) (λ os. os) refl refl (λ look. refl) by
     where
-      by : (vs : List ℤ) → bits vs 0 ≡ p .a → bits vs 1 ≡ p .b → bits vs 2 ≡ p .imm → partsBy (p .op) I vs ≡ kept I p
+      by : (vs : List ℤ) → bitsAt vs 0 ≡ p .a → bitsAt vs 1 ≡ p .b → bitsAt vs 2 ≡ p .imm → partsBy (p .op) I vs ≡ kept I p
       by vs x y z = cc
   arguments Shift e = two Shift (numeral (p .imm) (let l = ltb-true (p .imm) 64 e in omega arith)) (λ os. os) refl refl (λ look. refl) by
     where
-      by : (vs : List ℤ) → bits vs 0 ≡ p .a → bits vs 1 ≡ p .b → bits vs 2 ≡ p .imm → partsBy (p .op) Shift vs ≡ kept Shift p
+      by : (vs : List ℤ) → bitsAt vs 0 ≡ p .a → bitsAt vs 1 ≡ p .b → bitsAt vs 2 ≡ p .imm → partsBy (p .op) Shift vs ≡ kept Shift p
       by vs x y z = cc
   arguments S e = two S (numeral (p .imm) (narrow 16 (p .imm) (omega arith) e)) (λ os. os) refl refl (λ look. refl) by
     where
-      by : (vs : List ℤ) → bits vs 0 ≡ p .a → bits vs 1 ≡ p .b → bits vs 2 ≡ p .imm → partsBy (p .op) S vs ≡ kept S p
+      by : (vs : List ℤ) → bitsAt vs 0 ≡ p .a → bitsAt vs 1 ≡ p .b → bitsAt vs 2 ≡ p .imm → partsBy (p .op) S vs ≡ kept S p
       by vs x y z = cc
   arguments B e = two B (numeral (p .imm) (narrow 16 (p .imm) (omega arith) e)) (λ os. os) refl refl (λ look. refl) by
     where
-      by : (vs : List ℤ) → bits vs 0 ≡ p .a → bits vs 1 ≡ p .b → bits vs 2 ≡ p .imm → partsBy (p .op) B vs ≡ kept B p
+      by : (vs : List ℤ) → bitsAt vs 0 ≡ p .a → bitsAt vs 1 ≡ p .b → bitsAt vs 2 ≡ p .imm → partsBy (p .op) B vs ≡ kept B p
       by vs x y z = cc
   arguments J e = jump (numeral (p .imm) (narrow 20 (p .imm) (omega arith) e))
   arguments Alone e = record { operands = without; text = refl; values = λ look. ([], refl, refl) }
@@ -161,15 +161,15 @@ module _ (p : Parts) (a : ltb (p .a) 16 ≡ true) (b : ltb (p .b) 16 ≡ true) (
 pub record LineOf (p : Parts) : Type 0 where
   pub tree : Line
   pub text : lineText tree ≡ printLine p
-  pub tells : (look : Form → List ℕ → Option ℤ) → lineTold tree look ≡ toldBy (wordIn (encodedIn opcodeNumber p))
+  pub tells : (look : Form → List ℕ → Option ℤ) → lineSaying tree look ≡ saidWord (wordMade (encodedIn opcodeNumber p))
 
 printed : (p : Parts) → p ≡ kept (formOf (p .op)) p → Arguments (formOf (p .op)) p → LineOf p
-unfolding lineText printLine lineTold wordOf
+unfolding lineText printLine lineSaying wordFor
 printed p k a = record {
   tree = instruction 0 (p .op) (a .operands) 0;
   text = ap (nameOf (p .op) ++_) (append-none (argumentsText (a .operands)) ∙ a .text);
   tells = λ look. let v = a .values (look (formOf (p .op))) in
-      ap (λ (o : Option (List ℤ)). toldBy (wordOf (p .op) o)) (v .1) ∙ ap (λ (q : Parts). toldBy (wordIn (encodedIn opcodeNumber q))) (v .2 ∙ sym k);
+      ap (λ (o : Option (List ℤ)). saidWord (wordFor (p .op) o)) (v .1) ∙ ap (λ (q : Parts). saidWord (wordMade (encodedIn opcodeNumber q))) (v .2 ∙ sym k);
 }
 
 fit : (p : Parts) → partsFit p ≡ true → p ≡ kept (formOf (p .op)) p → LineOf p
@@ -184,7 +184,7 @@ made-fits : (p : Parts) (w : ℕ) → encodedIn opcodeNumber p ≡ E.Word w → 
 unfolding encodedIn
 made-fits p w = go (partsFit p)
   where
-    go : (c : Bool) → cond c (E.Word (wordIs (formOf (p .op)) (opcodeNumber (p .op)) p)) (E.Refused (refusalOf 9 0)) ≡ E.Word w → c ≡ true
+    go : (c : Bool) → cond c (E.Word (wordOf (formOf (p .op)) (opcodeNumber (p .op)) p)) (E.Refused (refusalOf 9 0)) ≡ E.Word w → c ≡ true
     go true e = refl
     go false e = absurd (let z : _≡_ {A = ℕ} 0 1 = cc in omega arith)
 
@@ -193,7 +193,7 @@ line-back : (w : ℕ) (i : Instruction) → w < 2 ^ 32 → decodeIn opcodeNumber
 line-back w i h e =
     let made : encodedIn opcodeNumber (partsOf i) ≡ E.Word w = document .made-again w i h e in
     let p = fit (partsOf i) (made-fits (partsOf i) w made) (parts-kept i) in
-    fun-ext (λ look. ap (lineRead look) (sym (p .text)) ∙ line-complete look (p .tree) ∙ p .tells look ∙ ap (λ (x : Encoded). toldBy (wordIn x)) made)
+    fun-ext (λ look. ap (lineRead look) (sym (p .text)) ∙ line-complete look (p .tree) ∙ p .tells look ∙ ap (λ (x : Encoded). saidWord (wordMade x)) made)
 
 -- ---- the lines of a print
 plain : ℕ → Bool
@@ -227,7 +227,7 @@ line-print [] u h = refl
 line-print (b ∷ t) u h =
     let k = both-true (plain b) (every plain t) h in
     let m = both-true (not (eqb b 10)) (not (eqb b 13)) (k .0) in
-    rw (not-true (eqb b 10) (m .0), not-true (eqb b 13) (m .1)) (ap (push b) (line-print t u (k .1)))
+    rw (not-true (eqb b 10) (m .0), not-true (eqb b 13) (m .1)) (ap (withByte b) (line-print t u (k .1)))
 
 number-plain : (n : ℕ) → n < 2 ^ 64 → every plain (numberText n) ≡ true
 unfolding numberText every

@@ -1,5 +1,5 @@
 use Rattle.programs.proofs.Ends.{left-short, left-bad, left-small, words-fit, left-done}
-use Rattle.programs.specs.Promise.{left}
+use Rattle.programs.specs.Promise.{leftCleared}
 use Rattle.told.specs.Told.{doneTold}
 use Rattle.told.specs.declared.Told.{Told}
 use native.Mathlib.Omega.{arith}
@@ -32,7 +32,7 @@ same-length c = search needs
 
 -- src/lib.rt:33:9
 returns : tie.Need-returns
-returns c = let a = c .before .before .before .before .before .before .before .before .before .before .args in let n = c .before .before .before .before .before .note-labels .ensures in (ap (λ (t : Told). left t (a .words .now) (a .table .now)) (c .refused .ensures) ∙ left-short (a .text .now) (a .words .now) (a .table .now) _ _ (n .0) (c .before .enum-told .given .1) (n .1), n .1)
+returns c = let a = c .before .before .before .before .before .before .before .before .before .before .args in let n = c .before .before .before .before .before .note-labels .ensures in (ap (λ (t : Told). leftCleared t (a .words .now) (a .table .now)) (c .refused .ensures) ∙ left-short (a .text .now) (a .words .now) (a .table .now) _ _ (n .0) (c .before .enum-told .given .1) (n .1), n .1)
 
 -- src/lib.rt:35:11
 check-requires : tie.Need-check-requires
@@ -64,7 +64,7 @@ same-length-2 c = search needs
 
 -- src/lib.rt:39:17
 returns-2 : tie.Need-returns-2
-returns-2 c = let a = c .before .before .before .before .before .before .before .before .before .before .before .before .before .before .before .before .before .before .args in let n = c .before .before .before .before .before .before .before .before .before .before .before .before .before .note-labels .ensures in (ap (λ (t : Told). left t (a .words .now) (a .table .now)) (c .refused3 .ensures) ∙ left-small (a .text .now) (a .words .now) (a .table .now) _ _ _ (n .0) (c .before .before .before .before .before .before .before .before .before .second .given .1) (n .1) _ (sym (c .before .before .before .before .before .before .check .ensures) ∙ c .before .before .before .before .n .given .1) (omega (arith, c .before .before .wide .ensures, c .before .if1 .taken)), n .1)
+returns-2 c = let a = c .before .before .before .before .before .before .before .before .before .before .before .before .before .before .before .before .before .before .args in let n = c .before .before .before .before .before .before .before .before .before .before .before .before .before .note-labels .ensures in (ap (λ (t : Told). leftCleared t (a .words .now) (a .table .now)) (c .refused3 .ensures) ∙ left-small (a .text .now) (a .words .now) (a .table .now) _ _ _ (n .0) (c .before .before .before .before .before .before .before .before .before .second .given .1) (n .1) _ (sym (c .before .before .before .before .before .before .check .ensures) ∙ c .before .before .before .before .n .given .1) (omega (arith, c .before .before .wide .ensures, c .before .if1 .taken)), n .1)
 
 -- src/lib.rt:41:13
 write-words-requires : tie.Need-write-words-requires
@@ -84,7 +84,7 @@ same-length-3 c = search needs
 
 -- src/lib.rt:28:1
 returns-3 : tie.Need-returns-3
-returns-3 c = let a = c .before .before .before .before .before .before .before .before .before .before .before .before .before .before .before .before .args in let n = c .before .before .before .before .before .before .before .before .before .before .before .note-labels .ensures in (ap (λ (t : Told). left t (a .words .now) (a .table .now)) (c .refused2 .ensures) ∙ left-bad (a .text .now) (a .words .now) (a .table .now) _ _ _ (n .0) (c .before .before .before .before .before .before .before .second .given .1) (n .1) _ (sym (c .before .before .before .before .check .ensures) ∙ c .before .before .line .given .1), n .1)
+returns-3 c = let a = c .before .before .before .before .before .before .before .before .before .before .before .before .before .before .before .before .args in let n = c .before .before .before .before .before .before .before .before .before .before .before .note-labels .ensures in (ap (λ (t : Told). leftCleared t (a .words .now) (a .table .now)) (c .refused2 .ensures) ∙ left-bad (a .text .now) (a .words .now) (a .table .now) _ _ _ (n .0) (c .before .before .before .before .before .before .before .second .given .1) (n .1) _ (sym (c .before .before .before .before .check .ensures) ∙ c .before .before .line .given .1), n .1)
 
 -- src/lib.rt:28:1
 same-length-4 : tie.Need-same-length-4
@@ -96,7 +96,7 @@ same-length-5 c = search needs
 
 -- src/lib.rt:28:1
 returns-4 : tie.Need-returns-4
-returns-4 c = let a = c .before .before .before .before .before .before .before .before .before .before .before .before .before .before .before .before .before .before .before .before .before .before .before .args in let n = c .before .before .before .before .before .before .before .before .before .before .before .before .before .before .before .before .before .before .note-labels .ensures in (ap (λ (t : Told). left t (c .before .before .before .write-words .last .1 .1 .0) (a .table .now)) (c .done .ensures) ∙ ap (λ (v : List ℕ). left (doneTold (4 * c .before .before .before .before .before .before .before .before .before .n .given .0 .0)) v (a .table .now)) (c .before .before .before .write-words .ensures) ∙ left-done (a .text .now) (a .words .now) (a .table .now) _ _ _ (n .0) (c .before .before .before .before .before .before .before .before .before .before .before .before .before .before .second .given .1) (n .1) _ (sym (c .before .before .before .before .before .before .before .before .before .before .before .check .ensures) ∙ c .before .before .before .before .before .before .before .before .before .n .given .1) (omega (arith, c .before .before .before .before .before .before .before .wide .ensures, c .before .before .before .before .before .before .if1 .left)), n .1)
+returns-4 c = let a = c .before .before .before .before .before .before .before .before .before .before .before .before .before .before .before .before .before .before .before .before .before .before .before .args in let n = c .before .before .before .before .before .before .before .before .before .before .before .before .before .before .before .before .before .before .note-labels .ensures in (ap (λ (t : Told). leftCleared t (c .before .before .before .write-words .last .1 .1 .0) (a .table .now)) (c .done .ensures) ∙ ap (λ (v : List ℕ). leftCleared (doneTold (4 * c .before .before .before .before .before .before .before .before .before .n .given .0 .0)) v (a .table .now)) (c .before .before .before .write-words .ensures) ∙ left-done (a .text .now) (a .words .now) (a .table .now) _ _ _ (n .0) (c .before .before .before .before .before .before .before .before .before .before .before .before .before .before .second .given .1) (n .1) _ (sym (c .before .before .before .before .before .before .before .before .before .before .before .check .ensures) ∙ c .before .before .before .before .before .before .before .before .before .n .given .1) (omega (arith, c .before .before .before .before .before .before .before .wide .ensures, c .before .before .before .before .before .before .if1 .left)), n .1)
 
 pub assemble-with-spec : {M : Type 1} → statement M
 assemble-with-spec =

@@ -6,7 +6,7 @@ use lib.ListN.{length, drop}
 use borrow.Author.Needs.{needs}
 use Rattle.labels.specs.Bytes.{isLetter, isSpace}
 use Rattle.sums.specs.Reader.{sumRead, termRead, moreBy}
-use Rattle.sums.specs.Code.{Past, lookIn, of64, valueOf, seen}
+use Rattle.sums.specs.Code.{Past, lookIn, of64, valueRead, readTo}
 use Rattle.sums.proofs.Terms.{sooner, at-byte, term-name, term-number, term-flat, term-deep, more-stop, more-sign, turn-bad, turn-over, turn-on, again, sum-bad, sum-first}
 use borrow.Fn.Kinds.{In}
 use borrow.Fn.PlainCycle.{Measures, is, falls, and}
@@ -102,7 +102,7 @@ sum-returns : (t : ℕ) → sum-lts.Need-returns (
   joined-reads.Asked,
   joined-reads.Learnt,
 ) (sum-at t) sum.Post sum-Inv-loop sum-μ-loop
-sum-returns t c = (sum-bad _ _ (c .before .before .before .before .before .before .args .s .now) (c .before .before .before .before .before .before .args .at) (c .before .before .term .ensures .0 ∙ ap (seen (c .before .before .before .before .before .before .args .s .now)) (c .enum-told .given .1)), tt)
+sum-returns t c = (sum-bad _ _ (c .before .before .before .before .before .before .args .s .now) (c .before .before .before .before .before .before .args .at) (c .before .before .term .ensures .0 ∙ ap (readTo (c .before .before .before .before .before .before .args .s .now)) (c .enum-told .given .1)), tt)
 
 -- src/lib.rt:82:9
 sum-skip-requires : (t : ℕ) → sum-lts.Need-skip-requires (
@@ -131,7 +131,7 @@ sum-loop-holds : (t : ℕ) → sum-lts.Need-loop-holds (
 sum-loop-holds t c = let s = c .before .before .before .before .before .before .before .before .args .s .now in
     let past = subst (Past s (c .before .before .before .before .before .before .before .before .args .at)) (c .before .before .first .given .1) (c .before .before .before .before .term .ensures .1) in
     let on = passed isSpace _ _ _ (c .skip .ensures) .on in
-    (omega arith, (passed isSpace _ _ _ (c .skip .ensures) .within (past .1), sum-first _ _ s (c .before .before .before .before .before .before .before .before .args .at) (c .before .before .first .given .0 .0) (c .before .before .first .given .0 .1 .0) _ (c .before .before .before .before .term .ensures .0 ∙ ap (seen s) (c .before .before .first .given .1)) (passed isSpace _ _ _ (c .skip .ensures)) (omega arith)))
+    (omega arith, (passed isSpace _ _ _ (c .skip .ensures) .within (past .1), sum-first _ _ s (c .before .before .before .before .before .before .before .before .args .at) (c .before .before .first .given .0 .0) (c .before .before .first .given .0 .1 .0) _ (c .before .before .before .before .term .ensures .0 ∙ ap (readTo s) (c .before .before .first .given .1)) (passed isSpace _ _ _ (c .skip .ensures)) (omega arith)))
 
 -- src/lib.rt:84:13
 sum-sign-requires : (t : ℕ) → sum-lts.Need-sign-requires (
@@ -237,7 +237,7 @@ sum-returns-3 : (t : ℕ) → sum-lts.Need-returns-3 (
   joined-reads.Learnt,
 ) (sum-at t) sum.Post sum-Inv-loop sum-μ-loop
 sum-returns-3 t c = let inv = c .before .before .before .before .before .before .loop .inv in
-    (inv .1 .1 .1 .1 ∙ turn-bad _ (c .before .before .before .before .before .before .before .before .before .before .before .before .before .before .before .args .s .now) _ (c .before .before .before .before .before .before .loop .v) (c .before .before .before .before .before .before .loop .n) _ (c .before .before .before .skip2 .result) (c .before .before .before .before .before .sign .ensures) (c .before .before .before .before .if1 .left) (passed isSpace _ _ _ (c .before .before .before .skip2 .ensures)) (c .before .before .term2 .ensures .0 ∙ ap (seen (c .before .before .before .before .before .before .before .before .before .before .before .before .before .before .before .args .s .now)) (c .enum-told2 .given .1)), tt)
+    (inv .1 .1 .1 .1 ∙ turn-bad _ (c .before .before .before .before .before .before .before .before .before .before .before .before .before .before .before .args .s .now) _ (c .before .before .before .before .before .before .loop .v) (c .before .before .before .before .before .before .loop .n) _ (c .before .before .before .skip2 .result) (c .before .before .before .before .before .sign .ensures) (c .before .before .before .before .if1 .left) (passed isSpace _ _ _ (c .before .before .before .skip2 .ensures)) (c .before .before .term2 .ensures .0 ∙ ap (readTo (c .before .before .before .before .before .before .before .before .before .before .before .before .before .before .before .args .s .now)) (c .enum-told2 .given .1)), tt)
 
 -- src/lib.rt:93:13
 sum-joined-requires : (t : ℕ) → sum-lts.Need-joined-requires (
@@ -290,7 +290,7 @@ sum-returns-4 : (t : ℕ) → sum-lts.Need-returns-4 (
   joined-reads.Learnt,
 ) (sum-at t) sum.Post sum-Inv-loop sum-μ-loop
 sum-returns-4 t c = let inv = c .before .before .before .before .before .before .before .before .before .before .loop .inv in
-    (inv .1 .1 .1 .1 ∙ turn-over _ (c .before .before .before .before .before .before .before .before .before .before .before .before .before .before .before .before .before .before .before .args .s .now) _ (c .before .before .before .before .before .before .before .before .before .before .loop .v) (c .before .before .before .before .before .before .before .before .before .before .loop .n) _ (c .before .before .before .before .before .before .before .skip2 .result) (c .before .before .before .before .next .given .0 .0) (c .before .before .before .before .next .given .0 .1 .0) (c .before .before .before .before .before .before .before .before .before .sign .ensures) (c .before .before .before .before .before .before .before .before .if1 .left) (passed isSpace _ _ _ (c .before .before .before .before .before .before .before .skip2 .ensures)) (c .before .before .before .before .before .before .term2 .ensures .0 ∙ ap (seen (c .before .before .before .before .before .before .before .before .before .before .before .before .before .before .before .before .before .before .before .args .s .now)) (c .before .before .before .before .next .given .1)) (c .before .before .joined .ensures ∙ ap valueOf (c .enum-told3 .given .1)), tt)
+    (inv .1 .1 .1 .1 ∙ turn-over _ (c .before .before .before .before .before .before .before .before .before .before .before .before .before .before .before .before .before .before .before .args .s .now) _ (c .before .before .before .before .before .before .before .before .before .before .loop .v) (c .before .before .before .before .before .before .before .before .before .before .loop .n) _ (c .before .before .before .before .before .before .before .skip2 .result) (c .before .before .before .before .next .given .0 .0) (c .before .before .before .before .next .given .0 .1 .0) (c .before .before .before .before .before .before .before .before .before .sign .ensures) (c .before .before .before .before .before .before .before .before .if1 .left) (passed isSpace _ _ _ (c .before .before .before .before .before .before .before .skip2 .ensures)) (c .before .before .before .before .before .before .term2 .ensures .0 ∙ ap (readTo (c .before .before .before .before .before .before .before .before .before .before .before .before .before .before .before .before .before .before .before .args .s .now)) (c .before .before .before .before .next .given .1)) (c .before .before .joined .ensures ∙ ap valueRead (c .enum-told3 .given .1)), tt)
 
 -- src/lib.rt:98:9
 sum-skip-requires-3 : (t : ℕ) → sum-lts.Need-skip-requires-3 (
@@ -344,7 +344,7 @@ sum-loop-again t c = let s = c .before .before .before .before .before .before .
       (
         within,
         again _ s _ (c .before .before .before .before .before .before .before .before .before .before .before .before .loop .v) (c .before .before .before .before .before .before .before .before .before .before .before .before .loop .n) (c .before .before .both .given .0 .0) (c .skip3 .result) _ (inv .1 .1 .1 .0) (omega arith) within (inv .1 .1 .1 .1)
-            (λ g. turn-on _ s g (c .before .before .before .before .before .before .before .before .before .before .before .before .loop .v) (c .before .before .before .before .before .before .before .before .before .before .before .before .loop .n) _ (c .before .before .before .before .before .before .before .before .before .skip2 .result) (c .before .before .before .before .before .before .next .given .0 .0) (c .before .before .before .before .before .before .next .given .0 .1 .0) (c .before .before .both .given .0 .0) (c .skip3 .result) (c .before .before .before .before .before .before .before .before .before .before .before .sign .ensures) (c .before .before .before .before .before .before .before .before .before .before .if1 .left) (passed isSpace _ _ _ (c .before .before .before .before .before .before .before .before .before .skip2 .ensures)) (c .before .before .before .before .before .before .before .before .term2 .ensures .0 ∙ ap (seen s) (c .before .before .before .before .before .before .next .given .1)) (c .before .before .before .before .joined .ensures ∙ ap valueOf (c .before .before .both .given .1)) (passed isSpace _ _ _ (c .skip3 .ensures))),
+            (λ g. turn-on _ s g (c .before .before .before .before .before .before .before .before .before .before .before .before .loop .v) (c .before .before .before .before .before .before .before .before .before .before .before .before .loop .n) _ (c .before .before .before .before .before .before .before .before .before .skip2 .result) (c .before .before .before .before .before .before .next .given .0 .0) (c .before .before .before .before .before .before .next .given .0 .1 .0) (c .before .before .both .given .0 .0) (c .skip3 .result) (c .before .before .before .before .before .before .before .before .before .before .before .sign .ensures) (c .before .before .before .before .before .before .before .before .before .before .if1 .left) (passed isSpace _ _ _ (c .before .before .before .before .before .before .before .before .before .skip2 .ensures)) (c .before .before .before .before .before .before .before .before .term2 .ensures .0 ∙ ap (readTo s) (c .before .before .before .before .before .before .next .given .1)) (c .before .before .before .before .joined .ensures ∙ ap valueRead (c .before .before .both .given .1)) (passed isSpace _ _ _ (c .skip3 .ensures))),
       ),
     )
 

@@ -1,6 +1,6 @@
 use mathlib.Core.Path.{sym, _∙_, ap}
 use Rattle.sums.specs.Reader.{got}
-use Rattle.sums.specs.Code.{valueOf, of64}
+use Rattle.sums.specs.Code.{valueRead, of64}
 use Rattle.sums.proofs.Terms.{found-none, found-at, name-none, name-is, name-past}
 use Rattle.labels.proofs.Steps.{passed}
 use Rattle.labels.specs.Bytes.{isPart}
@@ -38,11 +38,11 @@ enum-told-2 c = search needs
 
 -- src/lib.rt:36:9
 returns-2 : tie.Need-returns-2
-returns-2 c = (name-is (c .before .before .before .before .before .before .before .before .before .before .args .text .now) (c .before .before .before .before .before .before .before .before .before .before .args .table .now) (c .before .before .before .before .before .before .before .before .before .before .args .base) _ _ _ (found-at _ _ _ _ (sym (c .before .before .before .before .before .before .find .ensures) ∙ c .before .before .before .before .i .given .1) .0) (c .before .before .distance .ensures ∙ ap valueOf (c .enum-told2 .given .1)), tt)
+returns-2 c = (name-is (c .before .before .before .before .before .before .before .before .before .before .args .text .now) (c .before .before .before .before .before .before .before .before .before .before .args .table .now) (c .before .before .before .before .before .before .before .before .before .before .args .base) _ _ _ (found-at _ _ _ _ (sym (c .before .before .before .before .before .before .find .ensures) ∙ c .before .before .before .before .i .given .1) .0) (c .before .before .distance .ensures ∙ ap valueRead (c .enum-told2 .given .1)), tt)
 
 -- src/lib.rt:28:1
 returns-3 : tie.Need-returns-3
-returns-3 c = let f = found-at _ _ _ _ (sym (c .before .before .before .before .before .before .before .find .ensures) ∙ c .before .before .before .before .before .i .given .1) in let p = passed isPart (c .before .before .before .before .before .before .before .before .before .before .before .args .s .now) (c .before .before .before .before .before .before .before .before .before .before .before .args .at) _ (f .1) in (name-is (c .before .before .before .before .before .before .before .before .before .before .before .args .text .now) (c .before .before .before .before .before .before .before .before .before .before .before .args .table .now) (c .before .before .before .before .before .before .before .before .before .before .before .args .base) _ _ _ (f .0) (c .before .before .before .distance .ensures ∙ ap valueOf (c .before .v .given .1)) ∙ ap (got (of64 (c .before .v .given .0 .0))) (sym (p .rest)), name-past (c .before .before .before .before .before .before .before .before .before .before .before .args .s .now) (c .before .before .before .before .before .before .before .before .before .before .before .args .at) _ (c .before .before .before .before .before .before .before .before .before .before .before .pre) p)
+returns-3 c = let f = found-at _ _ _ _ (sym (c .before .before .before .before .before .before .before .find .ensures) ∙ c .before .before .before .before .before .i .given .1) in let p = passed isPart (c .before .before .before .before .before .before .before .before .before .before .before .args .s .now) (c .before .before .before .before .before .before .before .before .before .before .before .args .at) _ (f .1) in (name-is (c .before .before .before .before .before .before .before .before .before .before .before .args .text .now) (c .before .before .before .before .before .before .before .before .before .before .before .args .table .now) (c .before .before .before .before .before .before .before .before .before .before .before .args .base) _ _ _ (f .0) (c .before .before .before .distance .ensures ∙ ap valueRead (c .before .v .given .1)) ∙ ap (got (of64 (c .before .v .given .0 .0))) (sym (p .rest)), name-past (c .before .before .before .before .before .before .before .before .before .before .before .args .s .now) (c .before .before .before .before .before .before .before .before .before .before .before .args .at) _ (c .before .before .before .before .before .before .before .before .before .before .before .pre) p)
 
 pub named-spec : {M : Type 1} → statement M
 named-spec =

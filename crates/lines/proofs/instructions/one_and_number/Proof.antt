@@ -1,7 +1,7 @@
 use Rattle.lines.proofs.Words.{first-bad, first-got, last-none, last-some, register-any, none-word, some-word, parts-one}
 use Rattle.lines.specs.Code.{regSeen}
 use Rattle.lines.specs.Lines.{register, immediate, parts}
-use Rattle.sums.specs.Code.{lookIn, of64, seen}
+use Rattle.sums.specs.Code.{lookIn, of64, readTo}
 use lib.ListN.{drop}
 use lib.IntN.{pos}
 use mathlib.Core.Option.{none, some}
@@ -44,7 +44,7 @@ enum-told-2 c = search needs
 returns-2 : tie.Need-returns-2
 returns-2 c = let s = c .before .before .before .before .before .before .before .before .before .before .args .s .now in let look = lookIn (c .before .before .before .before .before .before .before .before .before .before .args .text .now) (c .before .before .before .before .before .before .before .before .before .before .args .table .now) (c .before .before .before .before .before .before .before .before .before .before .args .base) in
     none-word (c .before .before .before .before .before .before .before .before .before .before .args .op) _ (first-got look register immediate [] (drop (c .before .before .before .before .before .before .before .before .before .before .args .at) s) (pos (c .before .before .before .before .a .given .0 .0)) (drop (c .before .before .before .before .a .given .0 .1 .0) s) none (register-any look (lookIn [] [] 0) _ _ (c .before .before .before .before .before .before .register-comma .ensures .0 ∙ ap (regSeen s) (c .before .before .before .before .a .given .1)))
-    (last-none look immediate (drop (c .before .before .before .before .a .given .0 .1 .0) s) (c .before .before .number-last .ensures ∙ ap (seen s) (c .enum-told2 .given .1))))
+    (last-none look immediate (drop (c .before .before .before .before .a .given .0 .1 .0) s) (c .before .before .number-last .ensures ∙ ap (readTo s) (c .enum-told2 .given .1))))
 
 -- src/instructions.rt:107:14
 bits-requires : tie.Need-bits-requires
@@ -59,7 +59,7 @@ returns-3 : tie.Need-returns-3
 returns-3 c = let s = c .before .before .before .before .before .before .before .before .before .before .before .before .before .args .s .now in let look = lookIn (c .before .before .before .before .before .before .before .before .before .before .before .before .before .args .text .now) (c .before .before .before .before .before .before .before .before .before .before .before .before .before .args .table .now) (c .before .before .before .before .before .before .before .before .before .before .before .before .before .args .base) in
     let a = c .before .before .before .before .before .before .before .a .given .0 .0 in let v = of64 (c .before .before .before .v .given .0 .0) in
     some-word (c .before .before .before .before .before .before .before .before .before .before .before .before .before .args .op) _ (pos a ∷ (v ∷ [])) (parts (c .before .before .before .before .before .before .before .before .before .before .before .before .before .args .op) a 0 0 (c .before .bits .result)) (first-got look register immediate [] (drop (c .before .before .before .before .before .before .before .before .before .before .before .before .before .args .at) s) (pos a) (drop (c .before .before .before .before .before .before .before .a .given .0 .1 .0) s) (some (v ∷ [])) (register-any look (lookIn [] [] 0) _ _ (c .before .before .before .before .before .before .before .before .before .register-comma .ensures .0 ∙ ap (regSeen s) (c .before .before .before .before .before .before .before .a .given .1)))
-    (last-some look immediate (drop (c .before .before .before .before .before .before .before .a .given .0 .1 .0) s) v _ (c .before .before .before .before .before .number-last .ensures ∙ ap (seen s) (c .before .before .before .v .given .1)))) (parts-one (c .before .before .before .before .before .before .before .before .before .before .before .before .before .args .op) a v (c .before .bits .result) (c .before .before .before .before .before .before .before .before .before .before .before .before .before .pre) (c .before .bits .ensures)) ∙ c .word .ensures
+    (last-some look immediate (drop (c .before .before .before .before .before .before .before .a .given .0 .1 .0) s) v _ (c .before .before .before .before .before .number-last .ensures ∙ ap (readTo s) (c .before .before .before .v .given .1)))) (parts-one (c .before .before .before .before .before .before .before .before .before .before .before .before .before .args .op) a v (c .before .bits .result) (c .before .before .before .before .before .before .before .before .before .before .before .before .before .pre) (c .before .bits .ensures)) ∙ c .word .ensures
 
 pub one-and-number-spec : {M : Type 1} → statement M
 one-and-number-spec =

@@ -7,7 +7,7 @@ use native.Mathlib.Omega.{arith}
 use borrow.Author.Needs.{needs}
 use denote.Ref.{now}
 use lib.ListN.{length, length-append}
-use Rattle.printing.specs.Passes.{allWords, linesOf, Put}
+use Rattle.printing.specs.Passes.{allWords, printedLines, Put}
 use Rattle.printing.proofs.Pieces.{both, no-byte}
 use Rattle.printing.proofs.Registers.{taken-registers}
 use Rattle.printing.proofs.Rooms.{lines-more, lines-none}
@@ -17,8 +17,8 @@ use Rattle.printing.proofs.writing.put_lines.Tie as tie
 
 abbrev Inv-loop : tie.InvT-loop
 Inv-loop words text₀ at₀ end₀ text at end =
-    (length text ≡ length text₀) × (at ≤ length words) × ((length words - at) % 4 ≡ 0) × (end + length (linesOf (wordsFrom at words)) ≤ length text₀)
-    × ((new : List ℕ) (stop : ℕ) → Put text new end stop (linesOf (wordsFrom at words)) → Put text₀ new 0 stop (linesOf (allWords words)))
+    (length text ≡ length text₀) × (at ≤ length words) × ((length words - at) % 4 ≡ 0) × (end + length (printedLines (wordsFrom at words)) ≤ length text₀)
+    × ((new : List ℕ) (stop : ℕ) → Put text new end stop (printedLines (wordsFrom at words)) → Put text₀ new 0 stop (printedLines (allWords words)))
 
 abbrev μ-loop : tie.MeasureT-loop
 μ-loop words text₀ at₀ end₀ text at end = length words - at
@@ -30,7 +30,7 @@ same-length : tie.Need-same-length Inv-loop μ-loop
 same-length c = c .before .loop .inv .0
 
 returns : tie.Need-returns Inv-loop μ-loop
-unfolding linesOf
+unfolding printedLines
 returns c =
     let l = c .before .loop in
     l .inv .4 (l .text) (l .end) (rw (words-none (l .at) (now (c .before .before .before .before .args .words)) (omega arith)) (no-byte (l .text) (l .end)))

@@ -2,7 +2,7 @@ use Rattle.sums.proofs.Decimals.{Counting, counts, counts-on, digits-en
 use Rattle.labels.proofs.Steps.{class-inside}
 use Rattle.labels.proofs.Classes.{digit-low, digit-high}
 use Rattle.sums.specs.declared.Read.{Read}
-use Rattle.sums.specs.Code.{signOf, seen, Past}
+use Rattle.sums.specs.Code.{signOf, readTo, Past}
 use Rattle.sums.specs.Reader.{digitsRead}
 use Rattle.labels.specs.Bytes.{isDigit}
 use borrow.Author.Tests.{not-true, not-false}
@@ -53,7 +53,7 @@ within-requires c κs = tt
 
 -- src/digits.rt:39:13
 returns-2 : tie.Need-returns-2 Inv-loop μ-loop
-returns-2 c = subst (λ (r : Read). (digitsRead (signOf (c .before .before .before .before .before .before .before .before .before .before .args .negative)) (drop (c .before .before .before .before .before .before .before .before .before .before .args .at) (c .before .before .before .before .before .before .before .before .before .before .args .s .now)) ≡ seen (c .before .before .before .before .before .before .before .before .before .before .args .s .now) r) × Past (c .before .before .before .before .before .before .before .before .before .before .args .s .now) (c .before .before .before .before .before .before .before .before .before .before .args .at) r) (sym (c .within .ensures)) (digits-end (c .before .before .before .before .before .before .before .before .before .before .args .s .now) (c .before .before .before .before .before .before .before .before .before .before .args .at) (c .before .before .before .before .before .loop .v) (c .before .before .before .before .before .loop .n) (c .before .before .before .before .before .loop .inv) (c .before .before .before .before .before .before .before .before .before .before .args .negative) (c .before .of-digits .result) (sym (c .before .before .before .before .before .before .before .digit .ensures ∙ ap isDigit (c .before .before .before .before .before .before .before .before .byte .ensures)) ∙ not-false _ (c .before .before .before .before .before .before .if1 .left)) (sym (c .before .before .before .digit2 .ensures ∙ ap isDigit (c .before .before .before .before .byte2 .ensures)) ∙ not-true _ (c .before .before .if2 .taken)) (c .before .of-digits .ensures))
+returns-2 c = subst (λ (r : Read). (digitsRead (signOf (c .before .before .before .before .before .before .before .before .before .before .args .negative)) (drop (c .before .before .before .before .before .before .before .before .before .before .args .at) (c .before .before .before .before .before .before .before .before .before .before .args .s .now)) ≡ readTo (c .before .before .before .before .before .before .before .before .before .before .args .s .now) r) × Past (c .before .before .before .before .before .before .before .before .before .before .args .s .now) (c .before .before .before .before .before .before .before .before .before .before .args .at) r) (sym (c .within .ensures)) (digits-end (c .before .before .before .before .before .before .before .before .before .before .args .s .now) (c .before .before .before .before .before .before .before .before .before .before .args .at) (c .before .before .before .before .before .loop .v) (c .before .before .before .before .before .loop .n) (c .before .before .before .before .before .loop .inv) (c .before .before .before .before .before .before .before .before .before .before .args .negative) (c .before .of-digits .result) (sym (c .before .before .before .before .before .before .before .digit .ensures ∙ ap isDigit (c .before .before .before .before .before .before .before .before .byte .ensures)) ∙ not-false _ (c .before .before .before .before .before .before .if1 .left)) (sym (c .before .before .before .digit2 .ensures ∙ ap isDigit (c .before .before .before .before .byte2 .ensures)) ∙ not-true _ (c .before .before .if2 .taken)) (c .before .of-digits .ensures))
 
 -- src/digits.rt:42:13
 returns-3 : tie.Need-returns-3 Inv-loop μ-loop
