@@ -122,6 +122,32 @@ module _ (look : List ℕ → Option ℤ) where
   OperandsSound : List Kind → List ℕ → List ℤ → Type 0
   OperandsSound ks t vs = (os : Operands ks) × ((n : ℕ) × (t ≡ operandsText os ++ spaces n) × (operandsValues os look ≡ some vs))
 
+  module _ (k : Kind) (o : Operand k) (t u : List ℕ) (v : ℤ) (h : ℕ) (e : skip t ≡ operandText o ++ (spaces h ++ u)) (w : operandValue o look ≡ some v) where
+    g : ℕ
+    g = length (runOf isSpace t)
+
+    last-text : u ≡ [] → t ≡ operandsText (last g o h) ++ []
+    unfolding g operandsText
+    last-text n = skipped t ∙ ap (spaces g ++_) (e ∙ ap (λ (x : List ℕ). operandText o ++ (spaces h ++ x)) n) ∙ simp append-assoc
+
+    last-sound : (vs : List ℤ) → u ≡ [] → some (v ∷ []) ≡ some vs → OperandsSound (k ∷ []) t vs
+    unfolding OperandsSound operandsValues
+    last-sound vs n q = (last g o h, (0, last-text n, ap (λ (x : Option ℤ). pushed x (some [])) w ∙ q))
+
+    module _ (j : Kind) (ks : List Kind) (os : Operands (j ∷ ks)) (n : ℕ) where
+      more-text : headOf u ≡ 44 → tailOf u ≡ operandsText os ++ spaces n → t ≡ operandsText (more g o h os) ++ spaces n
+      unfolding g operandsText
+      more-text c r =
+          let f : u ≡ 44 ∷ (operandsText os ++ spaces n) = cons-is u 44 c (λ z. omega arith) ∙ ap (44 ∷_) r in
+          skipped t ∙ ap (spaces g ++_) (e ∙ ap (λ (x : List ℕ). operandText o ++ (spaces h ++ x)) f) ∙ simp append-assoc
+
+      more-sound : (vs ws : List ℤ) → headOf u ≡ 44 → tailOf u ≡ operandsText os ++ spaces n → operandsValues os look ≡ some ws → vs ≡ v ∷ ws → OperandsSound (k ∷ (j ∷ ks)) t vs
+      unfolding OperandsSound operandsValues
+      more-sound vs ws c r q s = (
+        more g o h os,
+        (n, more-text c r, ap (λ (x : Option ℤ). pushed x (operandsValues os look)) w ∙ ap (pushed (some v)) q ∙ ap some (sym s)),
+      )
+
   operands-sound : (ks : List Kind) (t : List ℕ) (vs : List ℤ) → operandsRead ks look t ≡ some vs → OperandsSound ks t vs
   unfolding operandsRead OperandsSound OperandSound operandsText operandsValues
   operands-sound [] t vs h =
@@ -131,28 +157,14 @@ module _ (look : List ℕ → Option ℤ) where
       let x = with-some (operandRead k look (skip t)) (λ v u. cond (nothing u) (some (v ∷ [])) none) vs h in
       let c = cond-some (nothing (x .1 .0)) (some (x .0 ∷ [])) vs (x .1 .2) in
       let o = operand-sound k (skip t) (x .0) (x .1 .0) (x .1 .1) in
-      let g : ℕ = length (runOf isSpace t) in (
-        last g (o .0) (o .1 .0),
-        (
-          0,
-          skipped t ∙ ap (spaces g ++_) (o .1 .1 ∙ ap (λ (u : List ℕ). operandText (o .0) ++ (spaces (o .1 .0) ++ u)) (is-nothing (x .1 .0) (c .0))) ∙ simp append-assoc,
-          ap (λ (w : Option ℤ). pushed w (some [])) (o .1 .2) ∙ c .1,
-        ),
-      )
+      last-sound k (o .0) t (x .1 .0) (x .0) (o .1 .0) (o .1 .1) (o .1 .2) vs (is-nothing (x .1 .0) (c .0)) (c .1)
   operands-sound (k ∷ (j ∷ ks)) t vs h =
       let x = with-some (operandRead k look (skip t)) (λ v u. cond (eqb (headOf u) 44) (pushed (some v) (operandsRead (j ∷ ks) look (tailOf u))) none) vs h in
       let c = cond-some (eqb (headOf (x .1 .0)) 44) (pushed (some (x .0)) (operandsRead (j ∷ ks) look (tailOf (x .1 .0)))) vs (x .1 .2) in
       let p = push-some (x .0) (operandsRead (j ∷ ks) look (tailOf (x .1 .0))) vs (c .1) in
       let rest = operands-sound (j ∷ ks) (tailOf (x .1 .0)) (p .0) (p .1) in
       let o = operand-sound k (skip t) (x .0) (x .1 .0) (x .1 .1) in
-      let g : ℕ = length (runOf isSpace t) in (
-        more g (o .0) (o .1 .0) (rest .0),
-        (
-          rest .1 .0,
-          skipped t ∙ ap (spaces g ++_) (o .1 .1 ∙ ap (λ (u : List ℕ). operandText (o .0) ++ (spaces (o .1 .0) ++ u)) (cons-is (x .1 .0) 44 (eqb-true (headOf (x .1 .0)) 44 (c .0)) (λ z. omega arith) ∙ ap (44 ∷_) (rest .1 .1))) ∙ simp append-assoc,
-          ap (λ (w : Option ℤ). pushed w (operandsValues (rest .0) look)) (o .1 .2) ∙ ap (pushed (some (x .0))) (rest .1 .2) ∙ ap some (sym (p .2)),
-        ),
-      )
+      more-sound k (o .0) t (x .1 .0) (x .0) (o .1 .0) (o .1 .1) (o .1 .2) j ks (rest .0) (rest .1 .0) vs (p .0) (eqb-true (headOf (x .1 .0)) 44 (c .0)) (rest .1 .1) (rest .1 .2) (p .2)
 
   -- with the space that must stand before the first
   ArgumentsSound : List Kind → List ℕ → List ℤ → Type 0
