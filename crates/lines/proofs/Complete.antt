@@ -25,7 +25,7 @@ use Rattle.sums.specs.Reader.{Got, got, bad, given, onto}
 use Rattle.labels.proofs.Spans.{both-true, past-stop, past-append, run-append, skip-spaces}
 use Rattle.sums.proofs.Complete.{Ends, complete, space-apart}
 use Rattle.labels.proofs.Classes.{or-true, or-false, digit-low, digit-high, letter-low}
-use Rattle.lines.specs.Lines.{Kind, kindsOf, Operand, reg, sum, Operands, without, last, more, Line, blank, defines, instruction, operandText, operandsText, argumentsText, lineText, operandValue, pushed, operandsValues, wordFor, empty, named, wrong, saidWord, lineSaying}
+use Rattle.lines.specs.Lines.{Kind, kindsOf, Operand, reg, sum, Operands, without, last, more, Line, blank, defines, instruction, operandText, operandsText, argumentsText, lineText, operandValue, pushed, operandsValues, wordFor, empty, named, wrong, sayingOf, lineSaying}
 use Rattle.lines.specs.Reader.{registerRead, operandRead, nothing, with, operandsRead, instructionRead, wordRead, lineRead}
 
 pub skip-all : (n : ℕ) → skip (spaces n) ≡ []
@@ -237,7 +237,7 @@ module _ (look : Form → List ℕ → Option ℤ) where
       ∙ ap (λ (u : List ℕ). cond (nothing u) (named (runOf isPart (name ++ t))) wrong) (skip-all k)
       ∙ ap named (runs name t n a)
 
-  instruction-law : (g : ℕ) (op : Opcode) (os : Operands (kindsOf (formOf op))) (h : ℕ) → lineRead look (lineText (instruction g op os h)) ≡ saidWord (wordFor op (operandsValues os (look (formOf op))))
+  instruction-law : (g : ℕ) (op : Opcode) (os : Operands (kindsOf (formOf op))) (h : ℕ) → lineRead look (lineText (instruction g op os h)) ≡ sayingOf (wordFor op (operandsValues os (look (formOf op))))
   unfolding lineText wordRead
   instruction-law g op os h =
       let t : List ℕ = argumentsText os ++ spaces h in
@@ -248,7 +248,7 @@ module _ (look : Form → List ℕ → Option ℤ) where
       starts g (nameOf op) t n
       ∙ ap (λ (x : Bool). cond x (cond (nothing (skip (tailOf (skip (past isPart (nameOf op ++ t)))))) (named (runOf isPart (nameOf op ++ t))) wrong) (instructionRead (opcodeIn nameKey (keyOf (runOf isPart (nameOf op ++ t)))) look (past isPart (nameOf op ++ t)))) colon
       ∙ ap (λ (f : Found). instructionRead f look (past isPart (nameOf op ++ t))) (ap (λ (u : List ℕ). opcodeIn nameKey (keyOf u)) (runs (nameOf op) t n a) ∙ found op)
-      ∙ ap (λ (vs : Option (List ℤ)). saidWord (wordFor op vs)) (ap (operandsRead (kindsOf (formOf op)) (look (formOf op))) p ∙ arguments-law (look (formOf op)) os h)
+      ∙ ap (λ (vs : Option (List ℤ)). sayingOf (wordFor op vs)) (ap (operandsRead (kindsOf (formOf op)) (look (formOf op))) p ∙ arguments-law (look (formOf op)) os h)
 
   pub line-complete : (l : Line) → lineRead look (lineText l) ≡ lineSaying l look
   unfolding lineSaying

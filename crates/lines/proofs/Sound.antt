@@ -26,7 +26,7 @@ use Rattle.sums.specs.Reader.{Got, got, bad}
 use Rattle.labels.proofs.Spans.{both-true, run-past, every-run, past-head}
 use Rattle.labels.proofs.Classes.{digit-low, digit-high}
 use Rattle.sums.proofs.Sound.{sound, bad-got, cons-is, skipped, is-name, onto-got}
-use Rattle.lines.specs.Lines.{Kind, register, immediate, kindsOf, Operand, reg, sum, Operands, without, last, more, Line, blank, defines, instruction, operandText, operandsText, argumentsText, lineText, operandValue, pushed, operandsValues, wordFor, Saying, empty, named, wrong, saidWord, lineSaying}
+use Rattle.lines.specs.Lines.{Kind, register, immediate, kindsOf, Operand, reg, sum, Operands, without, last, more, Line, blank, defines, instruction, operandText, operandsText, argumentsText, lineText, operandValue, pushed, operandsValues, wordFor, Saying, empty, named, wrong, sayingOf, lineSaying}
 use Rattle.lines.specs.Reader.{isTeen, registerRead, operandRead, nothing, with, operandsRead, instructionRead, wordRead, lineRead}
 use Rattle.lines.proofs.Complete.{append-none, name-is, parts-of}
 use Rattle.lines.proofs.Names.{turned, one-key}
@@ -201,7 +201,7 @@ module _ (look : Form → List ℕ → Option ℤ) where
   refused : {A : Type 0} (x : Saying) → wrong ≡ x → (x ≡ wrong → ⊥) → A
   refused x e n = absurd (n (sym e))
 
-  told-word : (op : Opcode) (o : Option (List ℤ)) (x : Saying) → saidWord (wordFor op o) ≡ x → (x ≡ wrong → ⊥) → (vs : List ℤ) × (o ≡ some vs)
+  told-word : (op : Opcode) (o : Option (List ℤ)) (x : Saying) → sayingOf (wordFor op o) ≡ x → (x ≡ wrong → ⊥) → (vs : List ℤ) × (o ≡ some vs)
   unfolding wordFor
   told-word op none x e n = refused x e n
   told-word op (some vs) x e n = (vs, refl)
@@ -215,7 +215,7 @@ module _ (look : Form → List ℕ → Option ℤ) where
       let name : runOf isPart t ≡ nameOf op = one-key (runOf isPart t) (nameOf op) (every-run isPart t) (parts-of look (nameOf op) (name-is op)) (name-short op) (sym (number-found nameKey all (keyOf (runOf isPart t)) op e)) in (
         instruction g op (a .0) (a .1 .0),
         ap (spaces g ++_) (sym (run-past isPart t) ∙ ap (λ (u : List ℕ). u ++ past isPart t) name ∙ ap (nameOf op ++_) (a .1 .1)),
-        ap (λ (o : Option (List ℤ)). saidWord (wordFor op o)) (a .1 .2 ∙ sym (k .1)) ∙ h,
+        ap (λ (o : Option (List ℤ)). sayingOf (wordFor op o)) (a .1 .2 ∙ sym (k .1)) ∙ h,
       )
 
   word-sound : (g : ℕ) (t : List ℕ) (x : Saying) → isLetter (headOf t) ≡ true → wordRead look t ≡ x → (x ≡ wrong → ⊥) → LineSound (spaces g ++ t) x

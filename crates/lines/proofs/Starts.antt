@@ -18,9 +18,9 @@ use Rattle.labels.specs.Bytes.{isSpace, isLetter, isPart, headOf, keyOf}
 use Rattle.labels.specs.Reading.{tailOf, runOf, past, skip, nameAt, Passed}
 use Rattle.labels.proofs.Spans.{tail-drop, past-stop, past-head}
 use Rattle.labels.proofs.Steps.{passed}
-use Rattle.lines.specs.Lines.{Kind, kindsOf, wordFor, Saying, empty, named, word, wrong, saidWord}
+use Rattle.lines.specs.Lines.{Kind, kindsOf, wordFor, Saying, empty, named, word, wrong, sayingOf}
 use Rattle.lines.specs.Reader.{nothing, operandsRead, instructionRead, wordRead, lineRead}
-use Rattle.lines.specs.Code.{wordSaid, saidBy, saidOf, namedAt, startAt, startOf}
+use Rattle.lines.specs.Code.{wordOrWrong, wordOrBad, saidOf, namedAt, startAt, startOf}
 use Rattle.lines.specs.declared.Said.{Said}
 use Rattle.lines.specs.declared.Said.the-variants as Said
 use Rattle.lines.specs.declared.Start.{Start}
@@ -51,7 +51,7 @@ operands-from ks look t = go ks
     go (k ∷ (j ∷ ks)) = rw twice
 
 instruction-from : (f : Found) (look : Look) (t : List ℕ) → instructionRead f look (skip t) ≡ instructionRead f look t
-instruction-from (Op op) look t = ap (λ (o : Option (List ℤ)). saidWord (wordFor op o)) (operands-from (kindsOf (formOf op)) (look (formOf op)) t)
+instruction-from (Op op) look t = ap (λ (o : Option (List ℤ)). sayingOf (wordFor op o)) (operands-from (kindsOf (formOf op)) (look (formOf op)) t)
 instruction-from Nothing look t = refl
 
 module _ (s : List ℕ) where
@@ -153,7 +153,7 @@ module _ (s : List ℕ) (at : ℕ) (p : at ≡ 0 + length (runOf isSpace (drop 0
     start-label c m e b = ap (λ (t : Bool). cond t (Start.Label at) Start.Other) (sym (ap nothing (sym (passed isSpace s (n + 1) m e .rest)) ∙ nothing-end s m b)) ∙ colon c
 
 -- ---- an instruction's answer names no label
-pub word-said : (s : List ℕ) (w : ℕ) → wordSaid w ≡ saidOf s (saidBy w)
+pub word-said : (s : List ℕ) (w : ℕ) → wordOrWrong w ≡ saidOf s (wordOrBad w)
 word-said s w = go (ltb w (2 ^ 32))
   where
     go : (c : Bool) → cond c (word w) wrong ≡ saidOf s (cond c (Said.Word w) Said.Bad)

@@ -23,9 +23,9 @@ use Rattle.sums.specs.Code.{of64}
 use Rattle.lines.proofs.Steps.{nothing-end, nothing-not}
 use lib.ListN.{length, drop}
 use Rattle.sums.proofs.Differences.{dif-ge, dif-lt}
-use Rattle.lines.specs.Lines.{Kind, register, kindsOf, pushed, parts, partsBy, wordMade, wordFor, saidWord, Saying, word, wrong}
+use Rattle.lines.specs.Lines.{Kind, register, kindsOf, pushed, parts, partsBy, wordMade, wordFor, sayingOf, Saying, word, wrong}
 use Rattle.lines.specs.Reader.{operandRead, nothing, with, operandsRead}
-use Rattle.lines.specs.Code.{commaRead, lastRead, wordSaid, isNumbered}
+use Rattle.lines.specs.Code.{commaRead, lastRead, wordOrWrong, isNumbered}
 
 -- ---- operands, one by one
 module _ (look : List ℕ → Option ℤ) where
@@ -71,15 +71,15 @@ module _ (look : List ℕ → Option ℤ) where
   register-any look′ t w e = e
 
 -- ---- the word
-pub none-word : (op : Opcode) (o : Option (List ℤ)) → o ≡ none → saidWord (wordFor op o) ≡ Saying.wrong
+pub none-word : (op : Opcode) (o : Option (List ℤ)) → o ≡ none → sayingOf (wordFor op o) ≡ Saying.wrong
 unfolding wordFor
-none-word op o e = ap (λ (x : Option (List ℤ)). saidWord (wordFor op x)) e
+none-word op o e = ap (λ (x : Option (List ℤ)). sayingOf (wordFor op x)) e
 
-pub some-word : (op : Opcode) (o : Option (List ℤ)) (vs : List ℤ) (p : Parts) → o ≡ some vs → partsBy op (formOf op) vs ≡ p → saidWord (wordFor op o) ≡ saidWord (wordMade (encodedIn opcodeNumber p))
+pub some-word : (op : Opcode) (o : Option (List ℤ)) (vs : List ℤ) (p : Parts) → o ≡ some vs → partsBy op (formOf op) vs ≡ p → sayingOf (wordFor op o) ≡ sayingOf (wordMade (encodedIn opcodeNumber p))
 unfolding wordFor
-some-word op o vs p e q = ap (λ (x : Option (List ℤ)). saidWord (wordFor op x)) e ∙ ap (λ (x : Parts). saidWord (wordMade (encodedIn opcodeNumber x))) q
+some-word op o vs p e q = ap (λ (x : Option (List ℤ)). sayingOf (wordFor op x)) e ∙ ap (λ (x : Parts). sayingOf (wordMade (encodedIn opcodeNumber x))) q
 
-pub word-is : (w n : ℕ) → n ≡ w → n < 2 ^ 32 → word w ≡ wordSaid n
+pub word-is : (w n : ℕ) → n ≡ w → n < 2 ^ 32 → word w ≡ wordOrWrong n
 word-is w n e h = ap word (sym e) ∙ sym (ap (λ (c : Bool). cond c (word n) wrong) (lt-ltb n (2 ^ 32) h))
 
 module _ (op : Opcode) (a b : ℕ) where

@@ -49,11 +49,11 @@ saidOf s (Said.Word w) = word w
 saidOf s Said.Bad = wrong
 
 -- a word, or a greater number where the line is wrong
-abbrev pub wordSaid : ℕ → Saying
-wordSaid w = cond (ltb w (2 ^ 32)) (word w) wrong
+abbrev pub wordOrWrong : ℕ → Saying
+wordOrWrong w = cond (ltb w (2 ^ 32)) (word w) wrong
 
-abbrev pub saidBy : ℕ → Said
-saidBy w = cond (ltb w (2 ^ 32)) (Said.Word w) Said.Bad
+abbrev pub wordOrBad : ℕ → Said
+wordOrBad w = cond (ltb w (2 ^ 32)) (Said.Word w) Said.Bad
 
 -- the forms with two registers and a number
 abbrev pub isNumbered : Form → Bool

@@ -119,14 +119,14 @@ pub data Saying : Type 0 where
   word : ℕ → Saying
   wrong : Saying
 
-abbrev pub saidWord : Option ℕ → Saying
-saidWord none = wrong
-saidWord (some w) = word w
+abbrev pub sayingOf : Option ℕ → Saying
+sayingOf none = wrong
+sayingOf (some w) = word w
 
 unfoldable pub lineSaying : Line → (Form → List ℕ → Option ℤ) → Saying
 lineSaying (blank g) look = empty
 lineSaying (defines g name n h k) look = named name
-lineSaying (instruction g op os h) look = saidWord (wordFor op (operandsValues os (look (formOf op))))
+lineSaying (instruction g op os h) look = sayingOf (wordFor op (operandsValues os (look (formOf op))))
 
 -- "A label means its byte address, and in a branch or Jal its distance from the instruction": where `own` instructions stand before it,
 -- the number of those from which a label is counted

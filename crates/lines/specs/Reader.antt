@@ -13,7 +13,7 @@ use Rattle.names.specs.Names.{nameKey}
 use Rattle.labels.specs.Bytes.{isDigit, isLetter, isPart, headOf, keyOf}
 use Rattle.labels.specs.Reading.{tailOf, runOf, past, skip}
 use Rattle.sums.specs.Reader.{Got, got, bad, onto, sumRead}
-use Rattle.lines.specs.Lines.{Kind, register, immediate, kindsOf, pushed, wordFor, Saying, empty, named, wrong, saidWord}
+use Rattle.lines.specs.Lines.{Kind, register, immediate, kindsOf, pushed, wordFor, Saying, empty, named, wrong, sayingOf}
 
 -- "R" and one digit, or two: the second is one that makes it 10 to 15
 abbrev pub isTeen : List ℕ → Bool
@@ -46,7 +46,7 @@ operandsRead (k ∷ (j ∷ ks)) look t =
     with (operandRead k look (skip t)) (λ v u. cond (eqb (headOf u) 44) (pushed (some v) (operandsRead (j ∷ ks) look (tailOf u))) none)
 
 abbrev pub instructionRead : Found → (Form → List ℕ → Option ℤ) → List ℕ → Saying
-instructionRead (Op op) look t = saidWord (wordFor op (operandsRead (kindsOf (formOf op)) (look (formOf op)) t))
+instructionRead (Op op) look t = sayingOf (wordFor op (operandsRead (kindsOf (formOf op)) (look (formOf op)) t))
 instructionRead Nothing look t = wrong
 
 -- what a line says that begins with a letter

@@ -23,9 +23,9 @@ ghost use Rattle.words.specs.Words.{encodedIn};
 ghost use mir.Syntax.{w64};
 ghost use mir.Val.{ofZ};
 ghost use Rattle.sums.specs.Code.{lookIn, of64};
-ghost use Rattle.lines.specs.Lines.{kindsOf, wordMade, wordFor, saidWord};
+ghost use Rattle.lines.specs.Lines.{kindsOf, wordMade, wordFor, sayingOf};
 ghost use Rattle.lines.specs.Reader.{operandsRead, instructionRead};
-ghost use Rattle.lines.specs.Code.{isNumbered, labelsIn, wordSaid};
+ghost use Rattle.lines.specs.Code.{isNumbered, labelsIn, wordOrWrong};
 
 // Instead of a word, where a line is wrong.
 pub(crate) const WRONG: u64 = 0x1_0000_0000;
@@ -37,7 +37,7 @@ fn wide(w: u32) -> u64
 }
 
 fn word(p: Parts) -> u64
-    ensures { λ r. ⌜ saidWord (wordMade (encodedIn opcodeNumber p)) ≡ wordSaid r ⌝ }
+    ensures { λ r. ⌜ sayingOf (wordMade (encodedIn opcodeNumber p)) ≡ wordOrWrong r ⌝ }
 {
     match encode_parts(p) {
         Encoded::Word(w) => wide(w),
@@ -54,7 +54,7 @@ fn bits(v: u64) -> u64
 
 fn three_registers(s: &[u8], op: Opcode, at: usize) -> u64
     requires { ⌜ formOf op ≡ Form·.R ⌝ }
-    ensures { λ r. ⌜ saidWord (wordFor op (operandsRead (kindsOf Form·.R) (lookIn [] [] 0) (drop at (now (s .entry))))) ≡ wordSaid r ⌝ }
+    ensures { λ r. ⌜ sayingOf (wordFor op (operandsRead (kindsOf Form·.R) (lookIn [] [] 0) (drop at (now (s .entry))))) ≡ wordOrWrong r ⌝ }
 {
     let Reg::Of(a, m) = register_comma(s, at) else {
         return WRONG;
@@ -76,7 +76,7 @@ fn three_registers(s: &[u8], op: Opcode, at: usize) -> u64
 
 fn two_and_number(s: &[u8], text: &[u8], table: &[u64], base: u64, op: Opcode, at: usize) -> u64
     requires { ⌜ isNumbered (formOf op) ≡ true ⌝ }
-    ensures { λ r. ⌜ saidWord (wordFor op (operandsRead (kindsOf Form·.I) (lookIn (now (text .entry)) (now (table .entry)) base) (drop at (now (s .entry))))) ≡ wordSaid r ⌝ }
+    ensures { λ r. ⌜ sayingOf (wordFor op (operandsRead (kindsOf Form·.I) (lookIn (now (text .entry)) (now (table .entry)) base) (drop at (now (s .entry))))) ≡ wordOrWrong r ⌝ }
 {
     let Reg::Of(a, m) = register_comma(s, at) else {
         return WRONG;
@@ -98,7 +98,7 @@ fn two_and_number(s: &[u8], text: &[u8], table: &[u64], base: u64, op: Opcode, a
 
 fn one_and_number(s: &[u8], text: &[u8], table: &[u64], base: u64, op: Opcode, at: usize) -> u64
     requires { ⌜ formOf op ≡ Form·.J ⌝ }
-    ensures { λ r. ⌜ saidWord (wordFor op (operandsRead (kindsOf Form·.J) (lookIn (now (text .entry)) (now (table .entry)) base) (drop at (now (s .entry))))) ≡ wordSaid r ⌝ }
+    ensures { λ r. ⌜ sayingOf (wordFor op (operandsRead (kindsOf Form·.J) (lookIn (now (text .entry)) (now (table .entry)) base) (drop at (now (s .entry))))) ≡ wordOrWrong r ⌝ }
 {
     let Reg::Of(a, m) = register_comma(s, at) else {
         return WRONG;
@@ -117,7 +117,7 @@ fn one_and_number(s: &[u8], text: &[u8], table: &[u64], base: u64, op: Opcode, a
 
 fn nothing_more(s: &[u8], op: Opcode, at: usize) -> u64
     requires { ⌜ formOf op ≡ Form·.Alone ⌝ }
-    ensures { λ r. ⌜ saidWord (wordFor op (operandsRead [] (lookIn [] [] 0) (drop at (now (s .entry))))) ≡ wordSaid r ⌝ }
+    ensures { λ r. ⌜ sayingOf (wordFor op (operandsRead [] (lookIn [] [] 0) (drop at (now (s .entry))))) ≡ wordOrWrong r ⌝ }
 {
     let n = skip(s, at);
     if n < s.len() {
@@ -141,7 +141,7 @@ pub(crate) fn instruction(
     op: Opcode,
     at: usize,
 ) -> u64
-    ensures { λ r. ⌜ instructionRead (Found·.Op op) (labelsIn (now (text .entry)) (now (table .entry)) own) (drop at (now (s .entry))) ≡ wordSaid r ⌝ }
+    ensures { λ r. ⌜ instructionRead (Found·.Op op) (labelsIn (now (text .entry)) (now (table .entry)) own) (drop at (now (s .entry))) ≡ wordOrWrong r ⌝ }
 {
     let f = form_of(op);
     match f {

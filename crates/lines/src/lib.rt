@@ -12,10 +12,10 @@ use names::named;
 use opcode::Found;
 ghost use mathlib.Core.Path.{_≡_};
 ghost use Rattle.lines.specs.Reader.{lineRead};
-ghost use Rattle.lines.specs.Code.{startOf, labelsIn, saidOf, saidBy};
+ghost use Rattle.lines.specs.Code.{startOf, labelsIn, saidOf, wordOrBad};
 
-// How a line begins: with nothing, as the definition of the label at a place, with a name of this key, which may be an instruction's,
-// and something else at a place, or with something else.
+// How a line begins: with nothing; as the definition of the label at a place; with a name, which may be an instruction's: its key, and the
+// place of what follows; or with something else.
 pub enum Start {
     Blank,
     Label(usize),
@@ -53,7 +53,7 @@ pub fn start_of(s: &[u8]) -> Start
 }
 
 fn word_or_bad(w: u64) -> Said
-    ensures { λ r. ⌜ r ≡ saidBy w ⌝ }
+    ensures { λ r. ⌜ r ≡ wordOrBad w ⌝ }
 {
     if w < WRONG {
         return Said::Word(w as u32);

@@ -22,7 +22,7 @@ use Rattle.opcode.specs.declared.Found.{Found}
 use Rattle.opcode.specs.declared.Found.the-variants.{Op, Nothing}
 use mathlib.Core.Option.{Option, none, some}
 use Rattle.names.specs.Names.{nameKey}
-use Rattle.lines.specs.Lines.{saidWord, named, wrong, kindsOf, wordFor}
+use Rattle.lines.specs.Lines.{sayingOf, named, wrong, kindsOf, wordFor}
 use Rattle.lines.specs.Reader.{lineRead, instructionRead, operandsRead}
 use Rattle.lines.specs.Code.{isEnd, startOf}
 use Rattle.lines.specs.declared.Start.{Start}
@@ -58,7 +58,7 @@ module _ (table : List ℕ) (place key line : ℕ) (t : Tally) where
 pub instruction-counts : (f : Found) (look : Form → List ℕ → Option ℤ) (u : List ℕ) → Counts (instructionRead f look u)
 instruction-counts (Op op) look u = go (wordFor op (operandsRead (kindsOf (formOf op)) (look (formOf op)) u))
   where
-    go : (o : Option ℕ) → Counts (saidWord o)
+    go : (o : Option ℕ) → Counts (sayingOf o)
     go none = tt
     go (some w) = tt
 instruction-counts Nothing look u = tt

@@ -38,7 +38,7 @@ use Rattle.labels.specs.Bytes.{isDigit, every}
 use Rattle.sums.specs.Sums.{Sum, Term, done, number, unsigned, minus, sumText, sumValue, termText, restText, termValue, restValue, checked, fits64}
 use Rattle.labels.proofs.Spans.{both-true}
 use Rattle.labels.proofs.Classes.{digit-low}
-use Rattle.lines.specs.Lines.{kindsOf, reg, sum, Operands, without, last, more, Line, instruction, operandsText, argumentsText, lineText, pushed, operandsValues, bitsAt, partsBy, wordMade, wordFor, word, saidWord, lineSaying}
+use Rattle.lines.specs.Lines.{kindsOf, reg, sum, Operands, without, last, more, Line, instruction, operandsText, argumentsText, lineText, pushed, operandsValues, bitsAt, partsBy, wordMade, wordFor, word, sayingOf, lineSaying}
 use Rattle.lines.specs.Reader.{lineRead}
 use Rattle.lines.proofs.Complete.{line-complete, append-none}
 use Rattle.programs.specs.Programs.{withByte, linesOf, Teller, made, andWord, assembleFrom, assembleOf}
@@ -161,7 +161,7 @@ module _ (p : Parts) (a : ltb (p .a) 16 ≡ true) (b : ltb (p .b) 16 ≡ true) (
 pub record LineOf (p : Parts) : Type 0 where
   pub tree : Line
   pub text : lineText tree ≡ printLine p
-  pub tells : (look : Form → List ℕ → Option ℤ) → lineSaying tree look ≡ saidWord (wordMade (encodedIn opcodeNumber p))
+  pub tells : (look : Form → List ℕ → Option ℤ) → lineSaying tree look ≡ sayingOf (wordMade (encodedIn opcodeNumber p))
 
 printed : (p : Parts) → p ≡ kept (formOf (p .op)) p → Arguments (formOf (p .op)) p → LineOf p
 unfolding lineText printLine lineSaying wordFor
@@ -169,7 +169,7 @@ printed p k a = record {
   tree = instruction 0 (p .op) (a .operands) 0;
   text = ap (nameOf (p .op) ++_) (append-none (argumentsText (a .operands)) ∙ a .text);
   tells = λ look. let v = a .values (look (formOf (p .op))) in
-      ap (λ (o : Option (List ℤ)). saidWord (wordFor (p .op) o)) (v .1) ∙ ap (λ (q : Parts). saidWord (wordMade (encodedIn opcodeNumber q))) (v .2 ∙ sym k);
+      ap (λ (o : Option (List ℤ)). sayingOf (wordFor (p .op) o)) (v .1) ∙ ap (λ (q : Parts). sayingOf (wordMade (encodedIn opcodeNumber q))) (v .2 ∙ sym k);
 }
 
 fit : (p : Parts) → partsFit p ≡ true → p ≡ kept (formOf (p .op)) p → LineOf p
@@ -193,7 +193,7 @@ line-back : (w : ℕ) (i : Instruction) → w < 2 ^ 32 → decodeIn opcodeNumber
 line-back w i h e =
     let made : encodedIn opcodeNumber (partsOf i) ≡ E.Word w = document .made-again w i h e in
     let p = fit (partsOf i) (made-fits (partsOf i) w made) (parts-kept i) in
-    fun-ext (λ look. ap (lineRead look) (sym (p .text)) ∙ line-complete look (p .tree) ∙ p .tells look ∙ ap (λ (x : Encoded). saidWord (wordMade x)) made)
+    fun-ext (λ look. ap (lineRead look) (sym (p .text)) ∙ line-complete look (p .tree) ∙ p .tells look ∙ ap (λ (x : Encoded). sayingOf (wordMade x)) made)
 
 -- ---- the lines of a print
 plain : ℕ → Bool

@@ -1,7 +1,7 @@
 use Rattle.lines.proofs.Words.{three-any}
 use Rattle.lines.specs.Code.{labelsIn, isNumbered}
 use Rattle.lines.specs.Reader.{operandsRead}
-use Rattle.lines.specs.Lines.{kindsOf, wordFor, saidWord}
+use Rattle.lines.specs.Lines.{kindsOf, wordFor, sayingOf}
 use Rattle.sums.specs.Code.{lookIn}
 use Rattle.opcode.proofs.Variants.{forms, form-place, forms-at}
 use Rattle.opcode.proofs.Arms.{arm}
@@ -59,24 +59,24 @@ nothing-more-requires c κs = sym (c .before .before .form-of .ensures) ∙ c .e
 
 -- src/instructions.rt:129:1
 returns : tie.Need-returns
-returns c = ap (λ (f : Form). saidWord (wordFor (c .before .before .before .before .before .before .before .args .op) (operandsRead (kindsOf f) (labelsIn (c .before .before .before .before .before .before .before .args .text .now) (c .before .before .before .before .before .before .before .args .table .now) (c .before .before .before .before .before .before .before .args .own) f) (drop (c .before .before .before .before .before .before .before .args .at) (c .before .before .before .before .before .before .before .args .s .now))))) (sym (c .before .before .before .form-of .ensures) ∙ c .before .enum-told .given .1) ∙ ap (λ (o : Option (List ℤ)). saidWord (wordFor (c .before .before .before .before .before .before .before .args .op) o)) (three-any (lookIn (c .before .before .before .before .before .before .before .args .text .now) (c .before .before .before .before .before .before .before .args .table .now) 0) (lookIn [] [] 0) (drop (c .before .before .before .before .before .before .before .args .at) (c .before .before .before .before .before .before .before .args .s .now))) ∙ c .three-registers .ensures
+returns c = ap (λ (f : Form). sayingOf (wordFor (c .before .before .before .before .before .before .before .args .op) (operandsRead (kindsOf f) (labelsIn (c .before .before .before .before .before .before .before .args .text .now) (c .before .before .before .before .before .before .before .args .table .now) (c .before .before .before .before .before .before .before .args .own) f) (drop (c .before .before .before .before .before .before .before .args .at) (c .before .before .before .before .before .before .before .args .s .now))))) (sym (c .before .before .before .form-of .ensures) ∙ c .before .enum-told .given .1) ∙ ap (λ (o : Option (List ℤ)). sayingOf (wordFor (c .before .before .before .before .before .before .before .args .op) o)) (three-any (lookIn (c .before .before .before .before .before .before .before .args .text .now) (c .before .before .before .before .before .before .before .args .table .now) 0) (lookIn [] [] 0) (drop (c .before .before .before .before .before .before .before .args .at) (c .before .before .before .before .before .before .before .args .s .now))) ∙ c .three-registers .ensures
 
 -- src/instructions.rt:129:1
 returns-2 : tie.Need-returns-2
-returns-2 c = ap (λ (f : Form). saidWord (wordFor (c .before .before .before .before .before .before .args .op) (operandsRead (kindsOf f) (labelsIn (c .before .before .before .before .before .before .args .text .now) (c .before .before .before .before .before .before .args .table .now) (c .before .before .before .before .before .before .args .own) f) (drop (c .before .before .before .before .before .before .args .at) (c .before .before .before .before .before .before .args .s .now))))) (sym (c .before .before .form-of .ensures)) ∙ sym (arm forms R form-place forms-at (λ (f : Form). saidWord (wordFor (c .before .before .before .before .before .before .args .op) (operandsRead (kindsOf f) (labelsIn (c .before .before .before .before .before .before .args .text .now) (c .before .before .before .before .before .before .args .table .now) (c .before .before .before .before .before .before .args .own) f) (drop (c .before .before .before .before .before .before .args .at) (c .before .before .before .before .before .before .args .s .now))))) (saidWord (wordFor (c .before .before .before .before .before .before .args .op) (operandsRead (kindsOf I) (lookIn (c .before .before .before .before .before .before .args .text .now) (c .before .before .before .before .before .before .args .table .now) 0) (drop (c .before .before .before .before .before .before .args .at) (c .before .before .before .before .before .before .args .s .now))))) (1 ∷ (2 ∷ (3 ∷ []))) refl (c .before .before .form-of .result) (c .before .match .keys2)) ∙ c .two-and-number .ensures
+returns-2 c = ap (λ (f : Form). sayingOf (wordFor (c .before .before .before .before .before .before .args .op) (operandsRead (kindsOf f) (labelsIn (c .before .before .before .before .before .before .args .text .now) (c .before .before .before .before .before .before .args .table .now) (c .before .before .before .before .before .before .args .own) f) (drop (c .before .before .before .before .before .before .args .at) (c .before .before .before .before .before .before .args .s .now))))) (sym (c .before .before .form-of .ensures)) ∙ sym (arm forms R form-place forms-at (λ (f : Form). sayingOf (wordFor (c .before .before .before .before .before .before .args .op) (operandsRead (kindsOf f) (labelsIn (c .before .before .before .before .before .before .args .text .now) (c .before .before .before .before .before .before .args .table .now) (c .before .before .before .before .before .before .args .own) f) (drop (c .before .before .before .before .before .before .args .at) (c .before .before .before .before .before .before .args .s .now))))) (sayingOf (wordFor (c .before .before .before .before .before .before .args .op) (operandsRead (kindsOf I) (lookIn (c .before .before .before .before .before .before .args .text .now) (c .before .before .before .before .before .before .args .table .now) 0) (drop (c .before .before .before .before .before .before .args .at) (c .before .before .before .before .before .before .args .s .now))))) (1 ∷ (2 ∷ (3 ∷ []))) refl (c .before .before .form-of .result) (c .before .match .keys2)) ∙ c .two-and-number .ensures
 
 -- src/instructions.rt:129:1
 returns-3 : tie.Need-returns-3
-returns-3 c = ap (λ (f : Form). saidWord (wordFor (c .before .before .before .before .before .before .before .args .op) (operandsRead (kindsOf f) (labelsIn (c .before .before .before .before .before .before .before .args .text .now) (c .before .before .before .before .before .before .before .args .table .now) (c .before .before .before .before .before .before .before .args .own) f) (drop (c .before .before .before .before .before .before .before .args .at) (c .before .before .before .before .before .before .before .args .s .now))))) (sym (c .before .before .before .form-of .ensures) ∙ c .before .enum-told2 .given .1) ∙ c .two-and-number2 .ensures
+returns-3 c = ap (λ (f : Form). sayingOf (wordFor (c .before .before .before .before .before .before .before .args .op) (operandsRead (kindsOf f) (labelsIn (c .before .before .before .before .before .before .before .args .text .now) (c .before .before .before .before .before .before .before .args .table .now) (c .before .before .before .before .before .before .before .args .own) f) (drop (c .before .before .before .before .before .before .before .args .at) (c .before .before .before .before .before .before .before .args .s .now))))) (sym (c .before .before .before .form-of .ensures) ∙ c .before .enum-told2 .given .1) ∙ c .two-and-number2 .ensures
 
 -- src/instructions.rt:129:1
 returns-4 : tie.Need-returns-4
-returns-4 c = ap (λ (f : Form). saidWord (wordFor (c .before .before .before .before .before .before .before .args .op) (operandsRead (kindsOf f) (labelsIn (c .before .before .before .before .before .before .before .args .text .now) (c .before .before .before .before .before .before .before .args .table .now) (c .before .before .before .before .before .before .before .args .own) f) (drop (c .before .before .before .before .before .before .before .args .at) (c .before .before .before .before .before .before .before .args .s .now))))) (sym (c .before .before .before .form-of .ensures) ∙ c .before .enum-told3 .given .1) ∙ c .one-and-number .ensures
+returns-4 c = ap (λ (f : Form). sayingOf (wordFor (c .before .before .before .before .before .before .before .args .op) (operandsRead (kindsOf f) (labelsIn (c .before .before .before .before .before .before .before .args .text .now) (c .before .before .before .before .before .before .before .args .table .now) (c .before .before .before .before .before .before .before .args .own) f) (drop (c .before .before .before .before .before .before .before .args .at) (c .before .before .before .before .before .before .before .args .s .now))))) (sym (c .before .before .before .form-of .ensures) ∙ c .before .enum-told3 .given .1) ∙ c .one-and-number .ensures
 
 -- src/instructions.rt:129:1
 returns-5 : tie.Need-returns-5
 unfolding operandsRead
-returns-5 c = ap (λ (f : Form). saidWord (wordFor (c .before .before .before .before .before .before .before .args .op) (operandsRead (kindsOf f) (labelsIn (c .before .before .before .before .before .before .before .args .text .now) (c .before .before .before .before .before .before .before .args .table .now) (c .before .before .before .before .before .before .before .args .own) f) (drop (c .before .before .before .before .before .before .before .args .at) (c .before .before .before .before .before .before .before .args .s .now))))) (sym (c .before .before .before .form-of .ensures) ∙ c .before .enum-told4 .given .1) ∙ c .nothing-more .ensures
+returns-5 c = ap (λ (f : Form). sayingOf (wordFor (c .before .before .before .before .before .before .before .args .op) (operandsRead (kindsOf f) (labelsIn (c .before .before .before .before .before .before .before .args .text .now) (c .before .before .before .before .before .before .before .args .table .now) (c .before .before .before .before .before .before .before .args .own) f) (drop (c .before .before .before .before .before .before .before .args .at) (c .before .before .before .before .before .before .before .args .s .now))))) (sym (c .before .before .before .form-of .ensures) ∙ c .before .enum-told4 .given .1) ∙ c .nothing-more .ensures
 
 pub instruction-spec : {M : Type 1} → statement M
 instruction-spec =

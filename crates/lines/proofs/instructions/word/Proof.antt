@@ -1,6 +1,6 @@
 use mathlib.Core.Path.{sym, _∙_, ap}
 use Rattle.words.specs.declared.Encoded.{Encoded}
-use Rattle.lines.specs.Lines.{wordMade, saidWord}
+use Rattle.lines.specs.Lines.{wordMade, sayingOf}
 use Rattle.lines.proofs.Words.{word-is}
 use borrow.Author.Needs.{needs}
 use Rattle.lines.proofs.instructions.word.Statement.{statement}
@@ -24,11 +24,11 @@ enum-told c = search needs
 
 -- src/instructions.rt:39:1
 returns : tie.Need-returns
-returns c = ap (λ (x : Encoded). saidWord (wordMade x)) (sym (c .before .before .before .before .encode-parts .ensures) ∙ c .before .before .w .given .1) ∙ word-is (c .before .before .w .given .0 .0) (c .wide .result) (c .wide .ensures .0) (c .wide .ensures .1)
+returns c = ap (λ (x : Encoded). sayingOf (wordMade x)) (sym (c .before .before .before .before .encode-parts .ensures) ∙ c .before .before .w .given .1) ∙ word-is (c .before .before .w .given .0 .0) (c .wide .result) (c .wide .ensures .0) (c .wide .ensures .1)
 
 -- src/instructions.rt:39:1
 returns-2 : tie.Need-returns-2
-returns-2 c = ap (λ (x : Encoded). saidWord (wordMade x)) (sym (c .before .before .encode-parts .ensures) ∙ c .enum-told .given .1)
+returns-2 c = ap (λ (x : Encoded). sayingOf (wordMade x)) (sym (c .before .before .encode-parts .ensures) ∙ c .enum-told .given .1)
 
 pub word-spec : {M : Type 1} → statement M
 word-spec =
