@@ -13,7 +13,7 @@ use Rattle.state.specs.declared.State.{State}
 use Rattle.execute.specs.World.{World, world, worldOf}
 use Rattle.layout.specs.Layout.{headerBytes, kindOf, firstOf, secondOf, recordBytes, records, stateBytes, heldBy, table, stateIn}
 use Rattle.host.specs.Call.{stateOf}
-use Rattle.layout.proofs.Numbers.{number-bytes}
+use Rattle.memory.proofs.Numbers.{number-bytes}
 use Rattle.layout.proofs.Contents.{held-packed}
 use Rattle.agreement.specs.Reading.{readValues, noMarks, readAll, readWorld}
 use Rattle.agreement.proofs.Formed.{formed}

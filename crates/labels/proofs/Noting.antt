@@ -38,7 +38,7 @@ keyed s t = go (eqBytes s t) refl
 
 -- ---- where a search ends
 module _ (text table name : List ℕ) where
-  -- a slot that holdsName the name
+  -- a slot that holds the name
   abbrev pub Holds : ℕ → Type 0
   Holds h = (keyAt table h ≡ 0 → ⊥) × (holdsName text table name h ≡ true)
 
@@ -85,7 +85,7 @@ module _ (text old new : List ℕ) (j : ℕ) (c : Changed old new j) where
       ap (λ (q : ℕ). eqb q (keyOf name) && eqBytes (nameAt text (placeAt new k)) name) (c .key k n)
       ∙ ap (λ (p : ℕ). eqb (keyAt old k) (keyOf name) && eqBytes (nameAt text p) name) (c .place k n)
 
-  -- a slot passed over before is passed over, and one that held the name holdsName it
+  -- a slot passed over before is passed over, and one that held the name holds it
   turn-same : (name : List ℕ) (left k : ℕ) → (keyAt old k ≡ 0 → ⊥) → searchFrom text new name (suc left) k
       ≡ cond (holdsName text old name k) (Held k) (searchFrom text new name left (nextOf (slotsOf old) k))
   unfolding searchFrom
@@ -95,7 +95,7 @@ module _ (text old new : List ℕ) (j : ℕ) (c : Changed old new j) where
       ∙ ap (λ (t : Bool). cond t (Held k) (searchFrom text new name left (nextOf (slotsOf new) k))) (holds-same name k o)
       ∙ ap (λ (n : ℕ). cond (holdsName text old name k) (Held k) (searchFrom text new name left (nextOf n k))) (c .slots)
 
-  -- a search that ended in a slot ends there; one that ended in the changed slot, where that holdsName the name now
+  -- a search that ended in a slot ends there; one that ended in the changed slot, where that holds the name now
   abbrev Follows : List ℕ → Slot → Slot → Type 0
   Follows name (Held h) r = r ≡ Held h
   Follows name (Free f) r = f ≡ j → Holds text new name j → r ≡ Held j
@@ -144,7 +144,7 @@ module _ (text old new : List ℕ) (j place index : ℕ) (c : Changed old new j)
   new-held m e = let q = bytes-equal (nameAt text place) m e in
       now-held text old new j c m (ap (searchIn text old) (sym q) ∙ was-free) (new-taken, holds-new m ∙ e)
 
-  -- what holdsName a name now held it before, or is the slot that was changed
+  -- what holds a name now held it before, or is the slot that was changed
   holds-old : (m : List ℕ) (k : ℕ) → (k ≡ j → ⊥) → Holds text new m k → Holds text old m k
   holds-old m k n h = (λ z. h .0 (c .key k n ∙ z), sym (holds-same text old new j c m k n) ∙ h .1)
 

@@ -18,7 +18,8 @@ use Rattle.state.specs.declared.State.{State}
 use Rattle.state.proofs.Normal.{kept-held}
 use Rattle.layout.specs.Layout.{HEADER_BYTES, RECORD_BYTES, STATE_BYTES, headerBytes, kindOf, firstOf, secondOf, recordBytes, records, stateBytes, recordAt, kindIn, boundIn, zerosIn, firstIn, secondIn, heldIn, stateIn, numbersFit, recordLaid, wellLaid, admissible}
 use Rattle.layout.proofs.Rows.{table-at, table-of}
-use Rattle.layout.proofs.Numbers.{Small, number-bytes, read-next}
+use Rattle.memory.proofs.Numbers.{Small, number-bytes}
+use Rattle.layout.proofs.Numbers.{read-next}
 use Rattle.layout.proofs.Stored.{length-header, length-record, length-state}
 use Rattle.layout.proofs.Tests.{both, all-at, all-of}
 use Rattle.layout.proofs.Contents.{held-packed, numbers-kept, held-by, numbers-fit, kind-small, numbers-small, waits-held, mark-back, mark-is, mark-small}

@@ -84,12 +84,12 @@ store-there (suc n) m at v = go (store-there n (set m at (v % 256)) (suc at) (v 
         rw one (more ∙ rw length-set)
 
 -- what was stored is read back
-length-bytes : (n v : ℕ) → length (bytes n v) ≡ n
+pub length-bytes : (n v : ℕ) → length (bytes n v) ≡ n
 unfolding bytes
 length-bytes zero v = refl
 length-bytes (suc n) v = ap suc (length-bytes n (v / 256))
 
-number-bytes : (n v : ℕ) → v < 256 ^ n → numberOfBytes (bytes n v) ≡ v
+pub number-bytes : (n v : ℕ) → v < 256 ^ n → numberOfBytes (bytes n v) ≡ v
 unfolding numberOfBytes bytes
 number-bytes zero v h =
     let none : v < 1 = h in
@@ -105,3 +105,17 @@ read-stored n m at v fits small =
     let after = drop (at + length (bytes n v)) m in
     rw (sets-eq (bytes n v) m at room, append-assoc, drop-at (take at m) (bytes n v ++ after) at before, take-at (bytes n v) after n (length-bytes n v))
     (number-bytes n v small)
+
+-- what a slice of bytes is
+abbrev pub Small : List ℕ → Type 0
+Small b = (k : ℕ) → getD b k 0 < 256
+
+-- the number of some bytes, written
+pub bytes-number : (n : ℕ) (b : List ℕ) → Small b → n ≤ length b → bytes n (numberOfBytes (take n b)) ≡ take n b
+unfolding bytes numberOfBytes
+bytes-number zero b small h = refl
+bytes-number (suc n) [] small h = absurd (omega arith)
+bytes-number (suc n) (x ∷ b) small h =
+    let low : (numberOfBytes (take n b) * 256 + x) % 256 ≡ x = omega (arith, small 0) in
+    let rest : (numberOfBytes (take n b) * 256 + x) / 256 ≡ numberOfBytes (take n b) = omega (arith, small 0) in
+    rw (low, rest, bytes-number n b (λ k. small (suc k)) (omega arith))

@@ -8,7 +8,6 @@ use lib.Dec.{leb}
 use lib.ListN.{getD}
 use borrow.Author.Tests.{ne-eqb, leb-true}
 use Rattle.encoding.specs.Fields.{within}
-use Rattle.memory.specs.Bytes.{numberOfBytes}
 use Rattle.labels.specs.Bytes.{keyFrom, keyOf}
 use Rattle.opcode.specs.Opcodes.{opcodeNumber, all, firstWith, opcodeIn}
 use Rattle.opcode.specs.declared.Opcode.{Opcode}
@@ -16,7 +15,7 @@ use Rattle.opcode.specs.declared.Opcode.the-variants as O
 use Rattle.opcode.specs.declared.Found.the-variants.{Op, Nothing}
 use Rattle.opcode.proofs.Arms.{everywhere}
 use Rattle.opcode.proofs.Variants.{place, all-at}
-use Rattle.names.specs.Names.{nameOf, nameNumber, nameKey}
+use Rattle.names.specs.Names.{nameOf, nameKey}
 
 -- an opcode's name is found, so no two have the same
 pub found : (op : Opcode) → opcodeIn nameKey (nameKey op) ≡ Op op
@@ -37,9 +36,9 @@ numbered op =
     both-true true b h = (refl, h)
     both-true false b h = absurd (let z : _≡_ {A = ℕ} 0 1 = cc in omega arith)
 
-pub name-at : (op : Opcode) → getD (map nameNumber all) (opcodeNumber op - 1) 0 ≡ nameNumber op
-unfolding all numberOfBytes
-name-at = everywhere all O.Add place all-at (λ (op : Opcode). getD (map nameNumber all) (opcodeNumber op - 1) 0) (λ (op : Opcode). nameNumber op) refl refl
+pub key-at : (op : Opcode) → getD (map nameKey all) (opcodeNumber op - 1) 0 ≡ nameKey op
+unfolding all keyFrom
+key-at = everywhere all O.Add place all-at (λ (op : Opcode). getD (map nameKey all) (opcodeNumber op - 1) 0) (λ (op : Opcode). nameKey op) refl refl
 
 -- ---- a name that none of the fifty has, as a `match` finds it out: one after another
 abbrev pub NoneOf : Type 0 → List ℕ → ℕ → Type 0

@@ -5,7 +5,6 @@ use Prim.Native.String.{String, [] as none, _∷_ as _then_}
 use mathlib.Core.Bool.{cond}
 use mathlib.Core.List.{List, [], _∷_}
 use lib.Dec.{ltb}
-use Rattle.memory.specs.Bytes.{numberOfBytes}
 use Rattle.labels.specs.Bytes.{keyOf}
 use Rattle.opcode.specs.declared.Opcode.{Opcode}
 use Rattle.opcode.specs.declared.Opcode.the-variants as O
@@ -67,11 +66,7 @@ nameOf O.Jalr = bytesOf "Jalr"
 nameOf O.Ecall = bytesOf "Ecall"
 nameOf O.Ebreak = bytesOf "Ebreak"
 
--- a name as it is written: as a number, its first letter in the lowest byte
-abbrev pub nameNumber : Opcode → ℕ
-nameNumber op = numberOfBytes (nameOf op)
-
--- a name as it is read: its key. The fifty keys are a numbering of the opcodes
+-- the fifty keys are a numbering of the opcodes
 abbrev pub nameKey : Opcode → ℕ
 nameKey op = keyOf (nameOf op)
 

@@ -1,12 +1,11 @@
 -- Pieces of text put one after another.
-use Prim.Native.Nat.{ℕ, zero, suc, _+_, _/_}
+use Prim.Native.Nat.{ℕ, zero, suc, _+_, _/_, _%_}
 use mathlib.Core.List.{List, [], _∷_, _++_}
 use mathlib.Core.Path.{_≡_, refl, ap, _∙_, sym}
 use native.Mathlib.Omega.{arith}
 use lib.ListN.{length, set, length-append}
 use lib.Seq.{sets, set-comm}
-use Rattle.memory.specs.Bytes.{bytes, putAt}
-use Rattle.printing.specs.Passes.{Put}
+use Rattle.printing.specs.Passes.{lettersOf, Put}
 
 sets-next : (l : List ℕ) (at next : ℕ) (xs ys : List ℕ) → at + length xs ≡ next → sets (sets l at xs) next ys ≡ sets l at (xs ++ ys)
 sets-next l at next [] ys e = let same : next ≡ at = omega arith in rw same
@@ -29,11 +28,15 @@ both {old} {mid} {new} {at} {place} {end} {xs} {ys} p q =
 pub no-byte : (l : List ℕ) (at : ℕ) → Put l l at at []
 no-byte l at = record { stop = omega arith; left = refl }
 
--- a piece that is the bytes of a number
-length-bytes : (n v : ℕ) → length (bytes n v) ≡ n
-unfolding bytes
-length-bytes zero v = refl
-length-bytes (suc n) v = ap suc (length-bytes n (v / 256))
+-- a piece that is the letters of a key
+pub length-letters : (n key : ℕ) → length (lettersOf n key) ≡ n
+unfolding lettersOf
+length-letters zero key = refl
+length-letters (suc n) key = length-append (lettersOf n (key / 256)) _ ∙ ap (_+ 1) (length-letters n (key / 256)) ∙ omega arith
 
-pub some-bytes : (n v : ℕ) {old new : List ℕ} {at : ℕ} {piece : List ℕ} → new ≡ putAt n old at v → bytes n v ≡ piece → Put old new at (at + n) piece
-some-bytes n v put is = record { stop = rw (← is, length-bytes); left = rw (← is) put }
+-- one letter more, put before the rest: the last
+pub letter-more : (l : List ℕ) (at n key : ℕ) → sets (set l (at + n) (key % 256)) at (lettersOf n (key / 256)) ≡ sets l at (lettersOf (suc n) key)
+unfolding lettersOf
+letter-more l at n key =
+    ap (λ (k : ℕ). sets (set l (at + k) (key % 256)) at (lettersOf n (key / 256))) (sym (length-letters n (key / 256)))
+    ∙ sets-last l at (lettersOf n (key / 256)) (key % 256)

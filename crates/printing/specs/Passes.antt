@@ -1,5 +1,5 @@
 -- Inner: the room that `measure` leaves, the lines that `put_lines` writes, and what each writer of a piece of text promises.
-use Prim.Native.Nat.{ℕ, _+_, _-_, _/_, _<_}
+use Prim.Native.Nat.{ℕ, zero, suc, _+_, _-_, _/_, _%_, _<_}
 use mathlib.Core.Path.{_≡_}
 use mathlib.Core.List.{List, [], _∷_, _++_}
 use lib.ListN.{length}
@@ -28,6 +28,11 @@ takenOf (D.Refused r) = T.Refused r
 abbrev pub roomAfter : Printed → ℕ → Room
 roomAfter (text t) room = Room·.Left (room - length t)
 roomAfter (undecodable r) room = Room·.Refused r
+
+-- the low n bytes of a key, the lowest last
+unfoldable pub lettersOf : ℕ → ℕ → List ℕ
+lettersOf zero key = []
+lettersOf (suc n) key = lettersOf n (key / 256) ++ ((key % 256) ∷ [])
 
 -- the operands that most lines begin with
 abbrev pub twoRegisters : ℕ → ℕ → List ℕ

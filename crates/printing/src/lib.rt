@@ -3,7 +3,7 @@ mod digits; // digits.rt: numbers in decimal
 mod lines; // lines.rt: a line
 mod measure; // measure.rt: the first pass
 mod operands; // operands.rt: the operands of an instruction
-mod put; // put.rt: a byte of text
+mod put; // put.rt: a byte of text, and a name
 mod source; // source.rt: the words of a program
 mod writing; // writing.rt: the second pass
 

@@ -2,9 +2,9 @@
 use crate::operands::operands_length;
 use crate::operands::put_operands;
 use crate::put::put_byte;
+use crate::put::put_key;
 use forms::form_of;
 use instruction::Parts;
-use memory::bytes::put_number;
 use names::name_of;
 use opcode::Opcode;
 ghost use mathlib.Core.Path.{_≡_};
@@ -60,8 +60,7 @@ fn put_name(text: &mut [u8], at: usize, op: Opcode) -> usize
     ensures { λ r. ⌜ Put (now (text .entry)) (now (text .exit)) at r (nameOf op) ⌝ }
 {
     let size = letters(op);
-    put_number(text, at, size, name_of(op));
-    at + size
+    put_key(text, at, size, name_of(op))
 }
 
 pub(crate) fn put_line(text: &mut [u8], at: usize, p: Parts) -> usize

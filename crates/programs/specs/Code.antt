@@ -142,6 +142,6 @@ wordsFrom text table (t ∷ ts) own =
     onSaying (lineRead (labelsIn text table own) t) (wordsFrom text table ts own) (λ name. wordsFrom text table ts own)
     (λ w. w ∷ wordsFrom text table ts (own + 1)) (wordsFrom text table ts own)
 
--- ---- what is answered, and leftCleared in `words`
+-- ---- what is answered, and left in `words`
 abbrev pub Leaves : List ℕ → List ℕ → List ℕ → Told → List ℕ → Type 0
 Leaves text words table told new = leftCleared told new table ≡ leftOf (tellersOf text) words table

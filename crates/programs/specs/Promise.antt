@@ -39,6 +39,6 @@ unfoldable pub leftOf : List Teller → List ℕ → List ℕ → AllLeft
 leftOf fs words labels =
     cond (ltb (length labels) (3 * length (labelsFrom fs 0))) (leftCleared (refusedTold 9 0) words labels) (outcome (assembleOf fs) words labels)
 
--- whatever the lines of the text tell, that is what is leftCleared
+-- whatever the lines of the text tell, that is what is left
 abbrev pub Assembled : List ℕ → List ℕ → List ℕ → AllLeft → Type 0
 Assembled text words labels l = (fs : List Teller) → Tells (linesOf text) fs → l ≡ leftOf fs words labels

@@ -272,11 +272,11 @@ line-plain p h =
     every-both plain (nameOf (p .op)) (spelled (operandTexts (formOf (p .op)) p)) (names-plain (p .op)) (spelled-plain (texts-plain (formOf (p .op)) p (x .1)))
 
 -- ---- the program
-constant : List ℕ → List Teller
+unfoldable pub constant : List ℕ → List Teller
 constant [] = []
 constant (w ∷ ws) = (λ look. word w) ∷ constant ws
 
-readers : (ws t : List ℕ) → every (λ w. ltb w (2 ^ 32)) ws ≡ true → printOf ws ≡ text t → map reader (linesOf t) ≡ constant ws
+pub readers : (ws t : List ℕ) → every (λ w. ltb w (2 ^ 32)) ws ≡ true → printOf ws ≡ text t → map reader (linesOf t) ≡ constant ws
 unfolding printOf constant linesOf every
 readers [] t h e = let q : [] ≡ t = cc in ap (λ (t : List ℕ). map reader (linesOf t)) (sym q)
 readers (w ∷ ws) t h e = go (decodeIn opcodeNumber w) (printOf ws) refl refl e (readers ws)
@@ -298,7 +298,7 @@ readers (w ∷ ws) t h e = go (decodeIn opcodeNumber w) (printOf ws) refl refl e
     go (D.Instruction i) (undecodable r) ed ep e ih = absurd (let z : _≡_ {A = ℕ} 0 1 = cc in omega arith)
     go (D.Refused r) p ed ep e ih = absurd (let z : _≡_ {A = ℕ} 0 1 = cc in omega arith)
 
-assembled : (ws : List ℕ) (labels : List _) (line own : ℕ) (seen : List _) → assembleFrom (constant ws) labels line own seen ≡ made ws
+pub assembled : (ws : List ℕ) (labels : List _) (line own : ℕ) (seen : List _) → assembleFrom (constant ws) labels line own seen ≡ made ws
 unfolding constant assembleFrom
 assembled [] labels line own seen = refl
 assembled (w ∷ ws) labels line own seen = ap (andWord w) (assembled ws labels (line + 1) (own + 1) seen)

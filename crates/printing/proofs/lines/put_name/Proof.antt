@@ -1,6 +1,10 @@
 use borrow.Author.Needs.{needs}
-use Rattle.printing.proofs.Names.{name-bytes}
-use Rattle.printing.proofs.Pieces.{some-bytes}
+use mathlib.Core.Path.{_≡_, _∙_}
+use mathlib.Core.List.{List}
+use Prim.Native.Nat.{ℕ}
+use Rattle.names.specs.Names.{nameOf}
+use Rattle.printing.specs.Passes.{lettersOf, Put}
+use Rattle.printing.proofs.Names.{name-letters}
 use Rattle.printing.proofs.lines.put_name.Statement.{statement}
 use Rattle.printing.proofs.lines.put_name.Tie as tie
 
@@ -10,11 +14,8 @@ letters-requires c κs = search needs
 name-of-requires : tie.Need-name-of-requires
 name-of-requires c κs = search needs
 
-put-number-requires : tie.Need-put-number-requires
-put-number-requires c κs = search needs
-
-add-result : tie.Need-add-result
-add-result c = search needs
+put-key-requires : tie.Need-put-key-requires
+put-key-requires c κs = search needs
 
 same-length : tie.Need-same-length
 same-length c = search needs
@@ -23,10 +24,10 @@ returns : tie.Need-returns
 returns c =
     let size = c .before .before .before .before .before .letters in
     let name = c .before .before .before .name-of in
-    some-bytes (size .result) (name .result) (c .before .before .put-number .ensures)
-    (rw (size .ensures .0, name .ensures) (name-bytes (c .before .before .before .before .before .before .before .args .op)))
+    let op = c .before .before .before .before .before .before .before .args .op in
+    let is : lettersOf (size .result) (name .result) ≡ nameOf op = rw (size .ensures .0, name .ensures) (name-letters op) in
+    rw is at (c .before .before .put-key .ensures)
 
 pub put-name-spec : {M : Type 1} → statement M
 put-name-spec =
-    tie.close
-    (tie.spec letters-requires name-of-requires put-number-requires add-result same-length returns)
+    tie.close (tie.spec letters-requires name-of-requires put-key-requires same-length returns)
