@@ -1,16 +1,16 @@
 -- Numbers in bytes, one after another, over the size.
 use Prim.Native.Nat.{ℕ, zero, suc, _+_, _*_, _/_, _%_, _^_, _<_, _≤_}
-use mathlib.Core.Path.{_≡_, refl, ap}
+use mathlib.Core.Path.{_≡_, refl}
 use mathlib.Core.Bool.{Bool, true, false, _&&_}
 use mathlib.Core.List.{List, [], _∷_, _++_}
 use native.Mathlib.Omega.{arith}
 use lib.Dec.{ltb, leb, eqb, lit<}
 use borrow.Author.Tests.{lt-ltb, le-ltb, leb-true, leb-false, eqb-true, eqb-false}
-use lib.ListN.{length, take, drop, getD, length-drop, take-append-drop}
-use lib.Seq.{sets, drop-drop, getD-drop, take-all}
+use lib.ListN.{length, take, drop, length-drop, take-append-drop}
+use lib.Seq.{sets, drop-drop, getD-drop}
 use Rattle.memory.specs.Bytes.{numberOfBytes, bytes, numberAt, putAt}
 use Rattle.memory.proofs.Numbers.{Small, length-bytes, bytes-number}
-use Rattle.layout.proofs.Rows.{sets-next, sets-all}
+use Rattle.layout.proofs.Rows.{sets-next}
 
 -- a number stored, and what follows it
 pub stored-next : (n v : ℕ) (l : List ℕ) (at next : ℕ) (ys : List ℕ) → at + n ≡ next → sets (putAt n l at v) next ys ≡ sets l at (bytes n v ++ ys)

@@ -13,7 +13,7 @@ module _ {A : Type 0} where
   sets-next l at next [] ys e = let same : next ≡ at = omega arith in rw same
   sets-next l at next (x ∷ xs) ys e = sets-next (set l at x) (suc at) next xs ys (omega arith)
 
-  pub sets-all : (l vs : List A) → length l ≡ length vs → sets l 0 vs ≡ vs
+  sets-all : (l vs : List A) → length l ≡ length vs → sets l 0 vs ≡ vs
   sets-all l vs h =
       let room : 0 + length vs ≤ length l = omega arith in
       let none : drop (0 + length vs) l ≡ [] = drop-of-length-le l {i = 0 + length vs} (omega arith) in

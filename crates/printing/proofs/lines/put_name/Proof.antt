@@ -1,9 +1,7 @@
 use borrow.Author.Needs.{needs}
-use mathlib.Core.Path.{_≡_, _∙_}
-use mathlib.Core.List.{List}
-use Prim.Native.Nat.{ℕ}
+use mathlib.Core.Path.{_≡_}
 use Rattle.names.specs.Names.{nameOf}
-use Rattle.printing.specs.Passes.{lettersOf, Put}
+use Rattle.printing.specs.Passes.{lettersOf}
 use Rattle.printing.proofs.Names.{name-letters}
 use Rattle.printing.proofs.lines.put_name.Statement.{statement}
 use Rattle.printing.proofs.lines.put_name.Tie as tie
