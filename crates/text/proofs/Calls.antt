@@ -12,7 +12,7 @@ use Rattle.refusal.specs.declared.Refusal.{Refusal}
 use Rattle.refusal.specs.declared.Stop.the-variants.{Fuel, Refused}
 use Rattle.refusal.specs.Stops.{numberOf, particularOf}
 use Rattle.refusal.proofs.Determined.{stop-determined}
-use Rattle.memory.specs.Bytes.{numberOfBytes, bytes, numberAt}
+use Rattle.memory.specs.Bytes.{numberOfBytes, numberAt}
 use Rattle.memory.proofs.Numbers.{Small, bytes-number}
 use Rattle.labels.specs.Bytes.{every}
 use Rattle.labels.proofs.Spans.{both-true}
