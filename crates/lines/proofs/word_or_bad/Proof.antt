@@ -3,15 +3,12 @@ use borrow.Author.Needs.{needs}
 use Rattle.lines.proofs.word_or_bad.Statement.{statement}
 use Rattle.lines.proofs.word_or_bad.Tie as tie
 
--- src/lib.rt:79:27
 cast-t3 : tie.Need-cast-t3
 cast-t3 c = search needs
 
--- src/lib.rt:79:9
 returns : tie.Need-returns
 returns c = rw (lt-ltb _ _ (c .if1 .taken))
 
--- src/lib.rt:75:1
 returns-2 : tie.Need-returns-2
 returns-2 c = rw (le-ltb _ _ (c .if1 .left))
 

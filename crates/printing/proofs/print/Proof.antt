@@ -59,14 +59,19 @@ same-length c = search needs
 returns-3 : tie.Need-returns-3
 returns-3 c =
     let a = c .before .before .before .before .before .before .before .before .before .before .before .before .before .args in
-    let room = sym (c .before .before .before .before .before .before .before .before .before .measure .ensures) ∙ c .before .before .before .before .before .before .before .left .given .1 in
-    rw (c .done .ensures) (written (now (a .words)) (now (a .text)) (c .before .before .before .before .before .before .before .before .before .before .if1 .left) _ room (c .before .before .before .before .before .if2 .left) _ _ (c .before .before .before .put-lines .ensures))
+    let room =
+    sym (c .before .before .before .before .before .before .before .before .before .measure .ensures)
+    ∙ c .before .before .before .before .before .before .before .left .given .1 in
+    rw (c .done .ensures)
+    (written (now (a .words)) (now (a .text)) (c .before .before .before .before .before .before .before .before .before .before .if1 .left) _ room
+    (c .before .before .before .before .before .if2 .left) _ _ (c .before .before .before .put-lines .ensures))
 
 returns-4 : tie.Need-returns-4
 returns-4 c =
     let a = c .before .before .before .before .before .before .before .before .before .before .args in
     let room = sym (c .before .before .before .before .before .before .measure .ensures) ∙ c .before .before .before .before .r .given .1 in
-    rw (c .refused3 .ensures, c .before .particular-of .ensures, c .before .before .number-of .ensures) (stopped (now (a .words)) (now (a .text)) (c .before .before .before .before .before .before .before .if1 .left) _ _ room)
+    rw (c .refused3 .ensures, c .before .particular-of .ensures, c .before .before .number-of .ensures)
+    (stopped (now (a .words)) (now (a .text)) (c .before .before .before .before .before .before .before .if1 .left) _ _ room)
 
 pub print-spec : {M : Type 1} → statement M
 print-spec =

@@ -52,7 +52,6 @@ sum-Inv-loop s text table base at depth v0 n0 v₀ n₀ v n =
 abbrev sum-μ-loop : sum-lts.MeasureT-loop
 sum-μ-loop s text table base at depth v0 n0 v₀ n₀ v n = length s - n
 
--- src/lib.rt:77:9
 sum-term-requires : (t : ℕ) → sum-lts.Need-term-requires (
   term-below t,
   term.Post,
@@ -65,7 +64,6 @@ sum-term-requires : (t : ℕ) → sum-lts.Need-term-requires (
 ) (sum-at t) sum.Post sum-Inv-loop sum-μ-loop
 sum-term-requires t c κs = search needs
 
--- src/lib.rt:78:21
 sum-enum-known-first : (t : ℕ) → sum-lts.Need-enum-known-first (
   term-below t,
   term.Post,
@@ -78,7 +76,6 @@ sum-enum-known-first : (t : ℕ) → sum-lts.Need-enum-known-first (
 ) (sum-at t) sum.Post sum-Inv-loop sum-μ-loop
 sum-enum-known-first t c = search needs
 
--- src/lib.rt:79:9
 sum-enum-told : (t : ℕ) → sum-lts.Need-enum-told (
   term-below t,
   term.Post,
@@ -91,7 +88,6 @@ sum-enum-told : (t : ℕ) → sum-lts.Need-enum-told (
 ) (sum-at t) sum.Post sum-Inv-loop sum-μ-loop
 sum-enum-told t c = search needs
 
--- src/lib.rt:79:9
 sum-returns : (t : ℕ) → sum-lts.Need-returns (
   term-below t,
   term.Post,
@@ -102,9 +98,10 @@ sum-returns : (t : ℕ) → sum-lts.Need-returns (
   joined-reads.Asked,
   joined-reads.Learnt,
 ) (sum-at t) sum.Post sum-Inv-loop sum-μ-loop
-sum-returns t c = (sum-bad _ _ (c .before .before .before .before .before .before .args .s .now) (c .before .before .before .before .before .before .args .at) (c .before .before .term .ensures .0 ∙ ap (readTo (c .before .before .before .before .before .before .args .s .now)) (c .enum-told .given .1)), tt)
+sum-returns t c =
+    let args = c .before .before .before .before .before .before .args in
+    (sum-bad _ _ (args .s .now) (args .at) (c .before .before .term .ensures .0 ∙ ap (readTo (args .s .now)) (c .enum-told .given .1)), tt)
 
--- src/lib.rt:82:9
 sum-skip-requires : (t : ℕ) → sum-lts.Need-skip-requires (
   term-below t,
   term.Post,
@@ -117,7 +114,6 @@ sum-skip-requires : (t : ℕ) → sum-lts.Need-skip-requires (
 ) (sum-at t) sum.Post sum-Inv-loop sum-μ-loop
 sum-skip-requires t c κs = search needs
 
--- src/lib.rt:83:5
 sum-loop-holds : (t : ℕ) → sum-lts.Need-loop-holds (
   term-below t,
   term.Post,
@@ -128,12 +124,20 @@ sum-loop-holds : (t : ℕ) → sum-lts.Need-loop-holds (
   joined-reads.Asked,
   joined-reads.Learnt,
 ) (sum-at t) sum.Post sum-Inv-loop sum-μ-loop
-sum-loop-holds t c = let s = c .before .before .before .before .before .before .before .before .args .s .now in
-    let past = subst (Past s (c .before .before .before .before .before .before .before .before .args .at)) (c .before .before .first .given .1) (c .before .before .before .before .term .ensures .1) in
-    let on = passed isSpace _ _ _ (c .skip .ensures) .on in
-    (omega arith, (passed isSpace _ _ _ (c .skip .ensures) .within (past .1), sum-first _ _ s (c .before .before .before .before .before .before .before .before .args .at) (c .before .before .first .given .0 .0) (c .before .before .first .given .0 .1 .0) _ (c .before .before .before .before .term .ensures .0 ∙ ap (readTo s) (c .before .before .first .given .1)) (passed isSpace _ _ _ (c .skip .ensures)) (omega arith)))
+sum-loop-holds t c =
+    let args = c .before .before .before .before .before .before .before .before .args in
+    let s = args .s .now in
+    let past = subst (Past s (args .at)) (c .before .before .first .given .1) (c .before .before .before .before .term .ensures .1) in
+    let on = passed isSpace _ _ _ (c .skip .ensures) .on in (
+      omega arith,
+      (
+        passed isSpace _ _ _ (c .skip .ensures) .within (past .1),
+        sum-first _ _ s (args .at) (c .before .before .first .given .0 .0) (c .before .before .first .given .0 .1 .0) _
+            (c .before .before .before .before .term .ensures .0 ∙ ap (readTo s) (c .before .before .first .given .1))
+            (passed isSpace _ _ _ (c .skip .ensures)) (omega arith),
+      ),
+    )
 
--- src/lib.rt:84:13
 sum-sign-requires : (t : ℕ) → sum-lts.Need-sign-requires (
   term-below t,
   term.Post,
@@ -146,7 +150,6 @@ sum-sign-requires : (t : ℕ) → sum-lts.Need-sign-requires (
 ) (sum-at t) sum.Post sum-Inv-loop sum-μ-loop
 sum-sign-requires t c κs = search needs
 
--- src/lib.rt:86:13
 sum-returns-2 : (t : ℕ) → sum-lts.Need-returns-2 (
   term-below t,
   term.Post,
@@ -157,10 +160,15 @@ sum-returns-2 : (t : ℕ) → sum-lts.Need-returns-2 (
   joined-reads.Asked,
   joined-reads.Learnt,
 ) (sum-at t) sum.Post sum-Inv-loop sum-μ-loop
-sum-returns-2 t c = let inv = c .before .before .loop .inv in
-    (inv .1 .1 .1 .1 ∙ more-stop _ _ _ (c .before .before .before .before .before .before .before .before .before .before .before .args .s .now) (c .before .before .loop .n) (sym (c .before .sign .ensures) ∙ c .if1 .taken), (inv .0, inv .1 .0))
+sum-returns-2 t c =
+    let loop = c .before .before .loop in
+    let inv = loop .inv in (
+      inv .1 .1 .1 .1
+          ∙ more-stop _ _ _ (c .before .before .before .before .before .before .before .before .before .before .before .args .s .now) (loop .n)
+          (sym (c .before .sign .ensures) ∙ c .if1 .taken),
+      (inv .0, inv .1 .0),
+    )
 
--- src/lib.rt:88:28
 sum-add-skip : (t : ℕ) → sum-lts.Need-add-skip (
   term-below t,
   term.Post,
@@ -171,9 +179,14 @@ sum-add-skip : (t : ℕ) → sum-lts.Need-add-skip (
   joined-reads.Asked,
   joined-reads.Learnt,
 ) (sum-at t) sum.Post sum-Inv-loop sum-μ-loop
-sum-add-skip t c = omega (arith, more-sign (termRead (c .before .before .before .before .before .before .before .before .before .before .before .args .depth) (lookIn (c .before .before .before .before .before .before .before .before .before .before .before .args .text .now) (c .before .before .before .before .before .before .before .before .before .before .before .args .table .now) (c .before .before .before .before .before .before .before .before .before .before .before .args .base))) 0 (of64 0) (c .before .before .before .before .before .before .before .before .before .before .before .args .s .now) (c .before .before .loop .n) (λ z. c .if1 .left (c .before .sign .ensures ∙ z)))
+sum-add-skip t c =
+    let args = c .before .before .before .before .before .before .before .before .before .before .before .args in
+    omega (
+      arith,
+      more-sign (termRead (args .depth) (lookIn (args .text .now) (args .table .now) (args .base))) 0 (of64 0) (args .s .now)
+          (c .before .before .loop .n) (λ z. c .if1 .left (c .before .sign .ensures ∙ z)),
+    )
 
--- src/lib.rt:88:13
 sum-skip-requires-2 : (t : ℕ) → sum-lts.Need-skip-requires-2 (
   term-below t,
   term.Post,
@@ -186,7 +199,6 @@ sum-skip-requires-2 : (t : ℕ) → sum-lts.Need-skip-requires-2 (
 ) (sum-at t) sum.Post sum-Inv-loop sum-μ-loop
 sum-skip-requires-2 t c κs = search needs
 
--- src/lib.rt:89:13
 sum-term-requires-2 : (t : ℕ) → sum-lts.Need-term-requires-2 (
   term-below t,
   term.Post,
@@ -199,7 +211,6 @@ sum-term-requires-2 : (t : ℕ) → sum-lts.Need-term-requires-2 (
 ) (sum-at t) sum.Post sum-Inv-loop sum-μ-loop
 sum-term-requires-2 t c κs = search needs
 
--- src/lib.rt:90:25
 sum-enum-known-next : (t : ℕ) → sum-lts.Need-enum-known-next (
   term-below t,
   term.Post,
@@ -212,7 +223,6 @@ sum-enum-known-next : (t : ℕ) → sum-lts.Need-enum-known-next (
 ) (sum-at t) sum.Post sum-Inv-loop sum-μ-loop
 sum-enum-known-next t c = search needs
 
--- src/lib.rt:91:13
 sum-enum-told-2 : (t : ℕ) → sum-lts.Need-enum-told-2 (
   term-below t,
   term.Post,
@@ -225,7 +235,6 @@ sum-enum-told-2 : (t : ℕ) → sum-lts.Need-enum-told-2 (
 ) (sum-at t) sum.Post sum-Inv-loop sum-μ-loop
 sum-enum-told-2 t c = search needs
 
--- src/lib.rt:91:13
 sum-returns-3 : (t : ℕ) → sum-lts.Need-returns-3 (
   term-below t,
   term.Post,
@@ -236,10 +245,18 @@ sum-returns-3 : (t : ℕ) → sum-lts.Need-returns-3 (
   joined-reads.Asked,
   joined-reads.Learnt,
 ) (sum-at t) sum.Post sum-Inv-loop sum-μ-loop
-sum-returns-3 t c = let inv = c .before .before .before .before .before .before .loop .inv in
-    (inv .1 .1 .1 .1 ∙ turn-bad _ (c .before .before .before .before .before .before .before .before .before .before .before .before .before .before .before .args .s .now) _ (c .before .before .before .before .before .before .loop .v) (c .before .before .before .before .before .before .loop .n) _ (c .before .before .before .skip2 .result) (c .before .before .before .before .before .sign .ensures) (c .before .before .before .before .if1 .left) (passed isSpace _ _ _ (c .before .before .before .skip2 .ensures)) (c .before .before .term2 .ensures .0 ∙ ap (readTo (c .before .before .before .before .before .before .before .before .before .before .before .before .before .before .before .args .s .now)) (c .enum-told2 .given .1)), tt)
+sum-returns-3 t c =
+    let loop = c .before .before .before .before .before .before .loop in
+    let args = c .before .before .before .before .before .before .before .before .before .before .before .before .before .before .before .args in
+    let inv = loop .inv in (
+      inv .1 .1 .1 .1
+          ∙ turn-bad _ (args .s .now) _ (loop .v) (loop .n) _ (c .before .before .before .skip2 .result)
+          (c .before .before .before .before .before .sign .ensures) (c .before .before .before .before .if1 .left)
+          (passed isSpace _ _ _ (c .before .before .before .skip2 .ensures))
+          (c .before .before .term2 .ensures .0 ∙ ap (readTo (args .s .now)) (c .enum-told2 .given .1)),
+      tt,
+    )
 
--- src/lib.rt:93:13
 sum-joined-requires : (t : ℕ) → sum-lts.Need-joined-requires (
   term-below t,
   term.Post,
@@ -252,7 +269,6 @@ sum-joined-requires : (t : ℕ) → sum-lts.Need-joined-requires (
 ) (sum-at t) sum.Post sum-Inv-loop sum-μ-loop
 sum-joined-requires t c κs = search needs
 
--- src/lib.rt:94:22
 sum-enum-known-both : (t : ℕ) → sum-lts.Need-enum-known-both (
   term-below t,
   term.Post,
@@ -265,7 +281,6 @@ sum-enum-known-both : (t : ℕ) → sum-lts.Need-enum-known-both (
 ) (sum-at t) sum.Post sum-Inv-loop sum-μ-loop
 sum-enum-known-both t c = search needs
 
--- src/lib.rt:95:13
 sum-enum-told-3 : (t : ℕ) → sum-lts.Need-enum-told-3 (
   term-below t,
   term.Post,
@@ -278,7 +293,6 @@ sum-enum-told-3 : (t : ℕ) → sum-lts.Need-enum-told-3 (
 ) (sum-at t) sum.Post sum-Inv-loop sum-μ-loop
 sum-enum-told-3 t c = search needs
 
--- src/lib.rt:95:13
 sum-returns-4 : (t : ℕ) → sum-lts.Need-returns-4 (
   term-below t,
   term.Post,
@@ -289,10 +303,23 @@ sum-returns-4 : (t : ℕ) → sum-lts.Need-returns-4 (
   joined-reads.Asked,
   joined-reads.Learnt,
 ) (sum-at t) sum.Post sum-Inv-loop sum-μ-loop
-sum-returns-4 t c = let inv = c .before .before .before .before .before .before .before .before .before .before .loop .inv in
-    (inv .1 .1 .1 .1 ∙ turn-over _ (c .before .before .before .before .before .before .before .before .before .before .before .before .before .before .before .before .before .before .before .args .s .now) _ (c .before .before .before .before .before .before .before .before .before .before .loop .v) (c .before .before .before .before .before .before .before .before .before .before .loop .n) _ (c .before .before .before .before .before .before .before .skip2 .result) (c .before .before .before .before .next .given .0 .0) (c .before .before .before .before .next .given .0 .1 .0) (c .before .before .before .before .before .before .before .before .before .sign .ensures) (c .before .before .before .before .before .before .before .before .if1 .left) (passed isSpace _ _ _ (c .before .before .before .before .before .before .before .skip2 .ensures)) (c .before .before .before .before .before .before .term2 .ensures .0 ∙ ap (readTo (c .before .before .before .before .before .before .before .before .before .before .before .before .before .before .before .before .before .before .before .args .s .now)) (c .before .before .before .before .next .given .1)) (c .before .before .joined .ensures ∙ ap valueRead (c .enum-told3 .given .1)), tt)
+sum-returns-4 t c =
+    let loop = c .before .before .before .before .before .before .before .before .before .before .loop in
+    let args =
+    c .before .before .before .before .before .before .before .before .before .before .before .before .before .before .before .before .before .before .before .args in
+    let inv = loop .inv in (
+      inv .1 .1 .1 .1
+          ∙ turn-over _ (args .s .now) _ (loop .v) (loop .n) _ (c .before .before .before .before .before .before .before .skip2 .result)
+          (c .before .before .before .before .next .given .0 .0) (c .before .before .before .before .next .given .0 .1 .0)
+          (c .before .before .before .before .before .before .before .before .before .sign .ensures)
+          (c .before .before .before .before .before .before .before .before .if1 .left)
+          (passed isSpace _ _ _ (c .before .before .before .before .before .before .before .skip2 .ensures))
+          (c .before .before .before .before .before .before .term2 .ensures .0
+          ∙ ap (readTo (args .s .now)) (c .before .before .before .before .next .given .1))
+          (c .before .before .joined .ensures ∙ ap valueRead (c .enum-told3 .given .1)),
+      tt,
+    )
 
--- src/lib.rt:98:9
 sum-skip-requires-3 : (t : ℕ) → sum-lts.Need-skip-requires-3 (
   term-below t,
   term.Post,
@@ -305,7 +332,6 @@ sum-skip-requires-3 : (t : ℕ) → sum-lts.Need-skip-requires-3 (
 ) (sum-at t) sum.Post sum-Inv-loop sum-μ-loop
 sum-skip-requires-3 t c κs = search needs
 
--- src/lib.rt:83:5
 sum-loop-less : (t : ℕ) → sum-lts.Need-loop-less (
   term-below t,
   term.Post,
@@ -316,14 +342,16 @@ sum-loop-less : (t : ℕ) → sum-lts.Need-loop-less (
   joined-reads.Asked,
   joined-reads.Learnt,
 ) (sum-at t) sum.Post sum-Inv-loop sum-μ-loop
-sum-loop-less t c = let s = c .before .before .before .before .before .before .before .before .before .before .before .before .before .before .before .before .before .before .before .before .before .args .s .now in
-    let past = subst (Past s (c .before .before .before .before .before .before .before .before .before .skip2 .result)) (c .before .before .before .before .before .before .next .given .1) (c .before .before .before .before .before .before .before .before .term2 .ensures .1) in
+sum-loop-less t c =
+    let s =
+    c .before .before .before .before .before .before .before .before .before .before .before .before .before .before .before .before .before .before .before .before .before .args .s .now in
+    let past =
+    subst (Past s (c .before .before .before .before .before .before .before .before .before .skip2 .result))
+    (c .before .before .before .before .before .before .next .given .1)
+    (c .before .before .before .before .before .before .before .before .term2 .ensures .1) in
     let from = passed isSpace _ _ _ (c .before .before .before .before .before .before .before .before .before .skip2 .ensures) .on in
-    let on = passed isSpace _ _ _ (c .skip3 .ensures) .on in
-    let within = passed isSpace _ _ _ (c .skip3 .ensures) .within (past .1) in
-    omega arith
+    let on = passed isSpace _ _ _ (c .skip3 .ensures) .on in let within = passed isSpace _ _ _ (c .skip3 .ensures) .within (past .1) in omega arith
 
--- src/lib.rt:83:5
 sum-loop-again : (t : ℕ) → sum-lts.Need-loop-again (
   term-below t,
   term.Post,
@@ -334,21 +362,36 @@ sum-loop-again : (t : ℕ) → sum-lts.Need-loop-again (
   joined-reads.Asked,
   joined-reads.Learnt,
 ) (sum-at t) sum.Post sum-Inv-loop sum-μ-loop
-sum-loop-again t c = let s = c .before .before .before .before .before .before .before .before .before .before .before .before .before .before .before .before .before .before .before .before .before .args .s .now in
-    let inv = c .before .before .before .before .before .before .before .before .before .before .before .before .loop .inv in
-    let past = subst (Past s (c .before .before .before .before .before .before .before .before .before .skip2 .result)) (c .before .before .before .before .before .before .next .given .1) (c .before .before .before .before .before .before .before .before .term2 .ensures .1) in
+sum-loop-again t c =
+    let loop = c .before .before .before .before .before .before .before .before .before .before .before .before .loop in
+    let s =
+    c .before .before .before .before .before .before .before .before .before .before .before .before .before .before .before .before .before .before .before .before .before .args .s .now in
+    let inv = loop .inv in
+    let past =
+    subst (Past s (c .before .before .before .before .before .before .before .before .before .skip2 .result))
+    (c .before .before .before .before .before .before .next .given .1)
+    (c .before .before .before .before .before .before .before .before .term2 .ensures .1) in
     let from = passed isSpace _ _ _ (c .before .before .before .before .before .before .before .before .before .skip2 .ensures) .on in
     let on = passed isSpace _ _ _ (c .skip3 .ensures) .on in
     let within = passed isSpace _ _ _ (c .skip3 .ensures) .within (past .1) in (
       omega arith,
       (
         within,
-        again _ s _ (c .before .before .before .before .before .before .before .before .before .before .before .before .loop .v) (c .before .before .before .before .before .before .before .before .before .before .before .before .loop .n) (c .before .before .both .given .0 .0) (c .skip3 .result) _ (inv .1 .1 .1 .0) (omega arith) within (inv .1 .1 .1 .1)
-            (λ g. turn-on _ s g (c .before .before .before .before .before .before .before .before .before .before .before .before .loop .v) (c .before .before .before .before .before .before .before .before .before .before .before .before .loop .n) _ (c .before .before .before .before .before .before .before .before .before .skip2 .result) (c .before .before .before .before .before .before .next .given .0 .0) (c .before .before .before .before .before .before .next .given .0 .1 .0) (c .before .before .both .given .0 .0) (c .skip3 .result) (c .before .before .before .before .before .before .before .before .before .before .before .sign .ensures) (c .before .before .before .before .before .before .before .before .before .before .if1 .left) (passed isSpace _ _ _ (c .before .before .before .before .before .before .before .before .before .skip2 .ensures)) (c .before .before .before .before .before .before .before .before .term2 .ensures .0 ∙ ap (readTo s) (c .before .before .before .before .before .before .next .given .1)) (c .before .before .before .before .joined .ensures ∙ ap valueRead (c .before .before .both .given .1)) (passed isSpace _ _ _ (c .skip3 .ensures))),
+        again _ s _ (loop .v) (loop .n) (c .before .before .both .given .0 .0) (c .skip3 .result) _ (inv .1 .1 .1 .0) (omega arith) within
+            (inv .1 .1 .1 .1)
+            (λ g. turn-on _ s g (loop .v) (loop .n) _ (c .before .before .before .before .before .before .before .before .before .skip2 .result)
+            (c .before .before .before .before .before .before .next .given .0 .0)
+            (c .before .before .before .before .before .before .next .given .0 .1 .0) (c .before .before .both .given .0 .0) (c .skip3 .result)
+            (c .before .before .before .before .before .before .before .before .before .before .before .sign .ensures)
+            (c .before .before .before .before .before .before .before .before .before .before .if1 .left)
+            (passed isSpace _ _ _ (c .before .before .before .before .before .before .before .before .before .skip2 .ensures))
+            (c .before .before .before .before .before .before .before .before .term2 .ensures .0
+            ∙ ap (readTo s) (c .before .before .before .before .before .before .next .given .1))
+            (c .before .before .before .before .joined .ensures ∙ ap valueRead (c .before .before .both .given .1))
+            (passed isSpace _ _ _ (c .skip3 .ensures))),
       ),
     )
 
--- src/lib.rt:106:9
 term-byte-requires : (t : ℕ) → term-lts.Need-byte-requires (
   byte-reads.Asked,
   byte-reads.Learnt,
@@ -367,7 +410,6 @@ term-byte-requires : (t : ℕ) → term-lts.Need-byte-requires (
 ) (term-at t) term.Post
 term-byte-requires t c κs = search needs
 
--- src/lib.rt:109:13
 term-returns : (t : ℕ) → term-lts.Need-returns (
   byte-reads.Asked,
   byte-reads.Learnt,
@@ -384,9 +426,10 @@ term-returns : (t : ℕ) → term-lts.Need-returns (
   number-reads.Asked,
   number-reads.Learnt,
 ) (term-at t) term.Post
-term-returns t c = (term-flat (c .before .before .before .before .before .before .args .s .now) (c .before .before .before .before .before .before .args .at) _ _ (sym (c .before .before .byte .ensures) ∙ c .before .if1 .taken) (c .if2 .taken), tt)
+term-returns t c =
+    let args = c .before .before .before .before .before .before .args in
+    (term-flat (args .s .now) (args .at) _ _ (sym (c .before .before .byte .ensures) ∙ c .before .if1 .taken) (c .if2 .taken), tt)
 
--- src/lib.rt:111:28
 term-add-skip : (t : ℕ) → term-lts.Need-add-skip (
   byte-reads.Asked,
   byte-reads.Learnt,
@@ -403,9 +446,10 @@ term-add-skip : (t : ℕ) → term-lts.Need-add-skip (
   number-reads.Asked,
   number-reads.Learnt,
 ) (term-at t) term.Post
-term-add-skip t c = omega (arith, at-byte (c .before .before .before .before .before .before .args .s .now) (c .before .before .before .before .before .before .args .at) 39 (sym (c .before .before .byte .ensures) ∙ c .before .if1 .taken))
+term-add-skip t c =
+    let args = c .before .before .before .before .before .before .args in
+    omega (arith, at-byte (args .s .now) (args .at) 39 (sym (c .before .before .byte .ensures) ∙ c .before .if1 .taken))
 
--- src/lib.rt:111:13
 term-skip-requires : (t : ℕ) → term-lts.Need-skip-requires (
   byte-reads.Asked,
   byte-reads.Learnt,
@@ -424,7 +468,6 @@ term-skip-requires : (t : ℕ) → term-lts.Need-skip-requires (
 ) (term-at t) term.Post
 term-skip-requires t c κs = search needs
 
--- src/lib.rt:112:62
 term-sub-sum : (t : ℕ) → term-lts.Need-sub-sum (
   byte-reads.Asked,
   byte-reads.Learnt,
@@ -443,7 +486,6 @@ term-sub-sum : (t : ℕ) → term-lts.Need-sub-sum (
 ) (term-at t) term.Post
 term-sub-sum t c = search needs
 
--- src/lib.rt:112:30
 term-sum-requires : (t : ℕ) → term-lts.Need-sum-requires (
   byte-reads.Asked,
   byte-reads.Learnt,
@@ -462,7 +504,6 @@ term-sum-requires : (t : ℕ) → term-lts.Need-sum-requires (
 ) (term-at t) term.Post
 term-sum-requires t c κs = search needs
 
--- src/lib.rt:112:9
 term-closed-requires : (t : ℕ) → term-lts.Need-closed-requires (
   byte-reads.Asked,
   byte-reads.Learnt,
@@ -479,9 +520,11 @@ term-closed-requires : (t : ℕ) → term-lts.Need-closed-requires (
   number-reads.Asked,
   number-reads.Learnt,
 ) (term-at t) term.Post
-term-closed-requires t c κs = sooner (c .before .before .before .before .before .before .before .before .args .s .now) (c .before .before .before .before .before .before .before .before .args .at) (c .before .skip .result) (c .sum .result) (let o = passed isSpace _ _ _ (c .before .skip .ensures) .on in omega arith) (c .sum .ensures .1)
+term-closed-requires t c κs =
+    sooner (c .before .before .before .before .before .before .before .before .args .s .now)
+    (c .before .before .before .before .before .before .before .before .args .at) (c .before .skip .result) (c .sum .result)
+    (let o = passed isSpace _ _ _ (c .before .skip .ensures) .on in omega arith) (c .sum .ensures .1)
 
--- src/lib.rt:112:9
 term-returns-2 : (t : ℕ) → term-lts.Need-returns-2 (
   byte-reads.Asked,
   byte-reads.Learnt,
@@ -498,9 +541,15 @@ term-returns-2 : (t : ℕ) → term-lts.Need-returns-2 (
   number-reads.Asked,
   number-reads.Learnt,
 ) (term-at t) term.Post
-term-returns-2 t c = (term-deep (c .before .before .before .before .before .before .before .before .before .args .s .now) (c .before .before .before .before .before .before .before .before .before .args .at) _ _ (c .before .before .skip .result) (c .before .sum .result) (sym (c .before .before .before .before .before .byte .ensures) ∙ c .before .before .before .before .if1 .taken) (c .before .before .before .if2 .left) (passed isSpace _ _ _ (c .before .before .skip .ensures)) (c .before .sum .ensures .0) ∙ c .closed .ensures .0, c .closed .ensures .1)
+term-returns-2 t c =
+    let args = c .before .before .before .before .before .before .before .before .before .args in (
+      term-deep (args .s .now) (args .at) _ _ (c .before .before .skip .result) (c .before .sum .result)
+          (sym (c .before .before .before .before .before .byte .ensures) ∙ c .before .before .before .before .if1 .taken)
+          (c .before .before .before .if2 .left) (passed isSpace _ _ _ (c .before .before .skip .ensures)) (c .before .sum .ensures .0)
+          ∙ c .closed .ensures .0,
+      c .closed .ensures .1,
+    )
 
--- src/lib.rt:114:8
 term-letter-requires : (t : ℕ) → term-lts.Need-letter-requires (
   byte-reads.Asked,
   byte-reads.Learnt,
@@ -519,7 +568,6 @@ term-letter-requires : (t : ℕ) → term-lts.Need-letter-requires (
 ) (term-at t) term.Post
 term-letter-requires t c κs = search needs
 
--- src/lib.rt:115:9
 term-named-requires : (t : ℕ) → term-lts.Need-named-requires (
   byte-reads.Asked,
   byte-reads.Learnt,
@@ -538,7 +586,6 @@ term-named-requires : (t : ℕ) → term-lts.Need-named-requires (
 ) (term-at t) term.Post
 term-named-requires t c κs = sym (c .before .letter .ensures ∙ ap isLetter (c .before .before .before .byte .ensures)) ∙ c .if3 .taken
 
--- src/lib.rt:115:9
 term-returns-3 : (t : ℕ) → term-lts.Need-returns-3 (
   byte-reads.Asked,
   byte-reads.Learnt,
@@ -555,9 +602,15 @@ term-returns-3 : (t : ℕ) → term-lts.Need-returns-3 (
   number-reads.Asked,
   number-reads.Learnt,
 ) (term-at t) term.Post
-term-returns-3 t c = (term-name (c .before .before .before .before .before .before .before .before .args .s .now) (c .before .before .before .before .before .before .before .before .args .at) _ _ (sym (c .before .before .letter .ensures ∙ ap isLetter (c .before .before .before .before .byte .ensures)) ∙ c .before .if3 .taken) (λ z. c .before .before .before .if1 .left (c .before .before .before .before .byte .ensures ∙ z)) ∙ c .named .ensures .0, c .named .ensures .1)
+term-returns-3 t c =
+    let args = c .before .before .before .before .before .before .before .before .args in (
+      term-name (args .s .now) (args .at) _ _
+          (sym (c .before .before .letter .ensures ∙ ap isLetter (c .before .before .before .before .byte .ensures)) ∙ c .before .if3 .taken)
+          (λ z. c .before .before .before .if1 .left (c .before .before .before .before .byte .ensures ∙ z))
+          ∙ c .named .ensures .0,
+      c .named .ensures .1,
+    )
 
--- src/lib.rt:117:5
 term-number-requires : (t : ℕ) → term-lts.Need-number-requires (
   byte-reads.Asked,
   byte-reads.Learnt,
@@ -576,7 +629,6 @@ term-number-requires : (t : ℕ) → term-lts.Need-number-requires (
 ) (term-at t) term.Post
 term-number-requires t c κs = search needs
 
--- src/lib.rt:103:1
 term-returns-4 : (t : ℕ) → term-lts.Need-returns-4 (
   byte-reads.Asked,
   byte-reads.Learnt,
@@ -593,7 +645,14 @@ term-returns-4 : (t : ℕ) → term-lts.Need-returns-4 (
   number-reads.Asked,
   number-reads.Learnt,
 ) (term-at t) term.Post
-term-returns-4 t c = (term-number (c .before .before .before .before .before .before .before .before .args .s .now) (c .before .before .before .before .before .before .before .before .args .at) _ _ (sym (c .before .before .letter .ensures ∙ ap isLetter (c .before .before .before .before .byte .ensures)) ∙ c .before .if3 .left) (λ z. c .before .before .before .if1 .left (c .before .before .before .before .byte .ensures ∙ z)) ∙ c .number .ensures .0, c .number .ensures .1)
+term-returns-4 t c =
+    let args = c .before .before .before .before .before .before .before .before .args in (
+      term-number (args .s .now) (args .at) _ _
+          (sym (c .before .before .letter .ensures ∙ ap isLetter (c .before .before .before .before .byte .ensures)) ∙ c .before .if3 .left)
+          (λ z. c .before .before .before .if1 .left (c .before .before .before .before .byte .ensures ∙ z))
+          ∙ c .number .ensures .0,
+      c .number .ensures .1,
+    )
 
 pub +sum+term-spec : {M : Type 1} → statement M
 +sum+term-spec = close μ-sum μ-term (λ t. sum-lts.spec (

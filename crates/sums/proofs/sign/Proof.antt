@@ -4,19 +4,15 @@ use borrow.Author.Needs.{needs}
 use Rattle.sums.proofs.sign.Statement.{statement}
 use Rattle.sums.proofs.sign.Tie as tie
 
--- src/lib.rt:48:9
 byte-requires : tie.Need-byte-requires
 byte-requires c κs = search needs
 
--- src/lib.rt:50:9
 returns : tie.Need-returns
 returns c = let e = sym (c .before .byte .ensures) ∙ c .if1 .taken in c .if1 .taken ∙ sym (simp (eq-eqb _ _ e))
 
--- src/lib.rt:53:9
 returns-2 : tie.Need-returns-2
 returns-2 c = c .if2 .taken ∙ sym (simp (ne-eqb _ _ (λ z. c .before .if1 .left (c .before .before .byte .ensures ∙ z)), eq-eqb _ _ (sym (c .before .before .byte .ensures) ∙ c .if2 .taken)))
 
--- src/lib.rt:45:1
 returns-3 : tie.Need-returns-3
 returns-3 c = simp (ne-eqb _ _ (λ z. c .before .if1 .left (c .before .before .byte .ensures ∙ z)), ne-eqb _ _ (λ z. c .if2 .left (c .before .before .byte .ensures ∙ z)))
 

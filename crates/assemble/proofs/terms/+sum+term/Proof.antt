@@ -41,11 +41,45 @@ term-below t = and 3 term-kinds.ps (falls 3 term-kinds.ps _<_ μ-term t) term.Pr
 
 -- what the calls in it are told and tell
 abbrev sum-claims : ℕ → sum-lts.Claims
-sum-claims t = (term-below t, term.Post, joined-reads.Asked, joined-reads.Learnt, skip-reads.Asked, skip-reads.Learnt, byte-reads.Asked, byte-reads.Learnt, is-sign-reads.Asked, is-sign-reads.Learnt, past-reads.Asked, past-reads.Learnt)
+sum-claims t = (
+  term-below t,
+  term.Post,
+  joined-reads.Asked,
+  joined-reads.Learnt,
+  skip-reads.Asked,
+  skip-reads.Learnt,
+  byte-reads.Asked,
+  byte-reads.Learnt,
+  is-sign-reads.Asked,
+  is-sign-reads.Learnt,
+  past-reads.Asked,
+  past-reads.Learnt,
+)
 
 -- what the calls in it are told and tell
 abbrev term-claims : ℕ → term-lts.Claims
-term-claims t = (byte-reads.Asked, byte-reads.Learnt, past-reads.Asked, past-reads.Learnt, skip-reads.Asked, skip-reads.Learnt, sum-below t, sum.Post, closed-reads.Asked, closed-reads.Learnt, letter-reads.Asked, letter-reads.Learnt, label-reads.Asked, label-reads.Learnt, digit-reads.Asked, digit-reads.Learnt, is-sign-reads.Asked, is-sign-reads.Learnt, number-reads.Asked, number-reads.Learnt)
+term-claims t = (
+  byte-reads.Asked,
+  byte-reads.Learnt,
+  past-reads.Asked,
+  past-reads.Learnt,
+  skip-reads.Asked,
+  skip-reads.Learnt,
+  sum-below t,
+  sum.Post,
+  closed-reads.Asked,
+  closed-reads.Learnt,
+  letter-reads.Asked,
+  letter-reads.Learnt,
+  label-reads.Asked,
+  label-reads.Learnt,
+  digit-reads.Asked,
+  digit-reads.Learnt,
+  is-sign-reads.Asked,
+  is-sign-reads.Learnt,
+  number-reads.Asked,
+  number-reads.Learnt,
+)
 
 abbrev sum-Inv-loop : sum-lts.InvT-loop
 sum-Inv-loop s text table base at depth v₀ sign₀ sign-at₀ next₀ turns₀ v sign sign-at next turns = Unit {0}

@@ -12,56 +12,79 @@ use borrow.Author.Needs.{needs}
 use Rattle.labels.proofs.table.find.Statement.{statement}
 use Rattle.labels.proofs.table.find.Tie as tie
 
--- src/table.rt:146:9
 name-at-requires : tie.Need-name-at-requires
 name-at-requires c κs = search needs
 
--- src/table.rt:147:11
 search-requires : tie.Need-search-requires
 search-requires c κs = search needs
 
--- src/table.rt:148:20
 enum-known-k : tie.Need-enum-known-k
 enum-known-k c = search needs
 
--- src/table.rt:148:42
 mul-t9 : tie.Need-mul-t9
-mul-t9 c = omega (arith, held-below (c .before .before .before .before .before .before .before .before .args .text .now) (c .before .before .before .before .before .before .before .before .args .table .now) (nameAt (c .before .before .before .before .before .before .before .before .args .s .now) (c .before .before .before .before .before .before .before .before .args .at)) _ (sym (c .before .before .before .search .ensures) ∙ c .before .k .given .1))
+mul-t9 c =
+    let args = c .before .before .before .before .before .before .before .before .args in
+    omega (
+      arith,
+      held-below (args .text .now) (args .table .now) (nameAt (args .s .now) (args .at)) _
+          (sym (c .before .before .before .search .ensures) ∙ c .before .k .given .1),
+    )
 
--- src/table.rt:148:42
 add-t10 : tie.Need-add-t10
-add-t10 c = omega (arith, held-below (c .before .before .before .before .before .before .before .before .args .text .now) (c .before .before .before .before .before .before .before .before .args .table .now) (nameAt (c .before .before .before .before .before .before .before .before .args .s .now) (c .before .before .before .before .before .before .before .before .args .at)) _ (sym (c .before .before .before .search .ensures) ∙ c .before .k .given .1))
+add-t10 c =
+    let args = c .before .before .before .before .before .before .before .before .args in
+    omega (
+      arith,
+      held-below (args .text .now) (args .table .now) (nameAt (args .s .now) (args .at)) _
+          (sym (c .before .before .before .search .ensures) ∙ c .before .k .given .1),
+    )
 
--- src/table.rt:148:36
 mul-t11 : tie.Need-mul-t11
-mul-t11 c = omega (arith, held-below (c .before .before .before .before .before .before .before .before .args .text .now) (c .before .before .before .before .before .before .before .before .args .table .now) (nameAt (c .before .before .before .before .before .before .before .before .args .s .now) (c .before .before .before .before .before .before .before .before .args .at)) _ (sym (c .before .before .before .search .ensures) ∙ c .before .k .given .1))
+mul-t11 c =
+    let args = c .before .before .before .before .before .before .before .before .args in
+    omega (
+      arith,
+      held-below (args .text .now) (args .table .now) (nameAt (args .s .now) (args .at)) _
+          (sym (c .before .before .before .search .ensures) ∙ c .before .k .given .1),
+    )
 
--- src/table.rt:148:36
 shared-slice-read-t13 : tie.Need-shared-slice-read-t13
-shared-slice-read-t13 c = omega (arith, held-below (c .before .before .before .before .before .before .before .before .before .args .text .now) (c .before .before .before .before .before .before .before .before .before .args .table .now) (nameAt (c .before .before .before .before .before .before .before .before .before .args .s .now) (c .before .before .before .before .before .before .before .before .before .args .at)) _ (sym (c .before .before .before .before .search .ensures) ∙ c .before .before .k .given .1))
+shared-slice-read-t13 c =
+    let args = c .before .before .before .before .before .before .before .before .before .args in
+    omega (
+      arith,
+      held-below (args .text .now) (args .table .now) (nameAt (args .s .now) (args .at)) _
+          (sym (c .before .before .before .before .search .ensures) ∙ c .before .before .k .given .1),
+    )
 
--- src/table.rt:149:26
 enum-told : tie.Need-enum-told
 enum-told c = search needs
 
--- src/table.rt:150:23
 enum-told-2 : tie.Need-enum-told-2
 enum-told-2 c = search needs
 
--- src/table.rt:143:1
 returns : tie.Need-returns
 unfolding indexIn
-returns c = ap (At (indexAt (c .before .before .before .before .before .before .before .before .before .args .table .now) (c .before .before .k .given .0 .0))) (ap (λ (n : Name). n .after) (c .before .before .before .before .before .name-at .ensures)) ∙ ap (λ (r : Slot). foundBy (indexBy r (c .before .before .before .before .before .before .before .before .before .args .table .now)) (c .before .before .before .before .before .before .before .before .before .args .at + length (nameAt (c .before .before .before .before .before .before .before .before .before .args .s .now) (c .before .before .before .before .before .before .before .before .before .args .at)))) (sym (sym (c .before .before .before .before .search .ensures) ∙ c .before .before .k .given .1))
+returns c =
+    let args = c .before .before .before .before .before .before .before .before .before .args in
+    ap (At (indexAt (args .table .now) (c .before .before .k .given .0 .0)))
+    (ap (λ (n : Name). n .after) (c .before .before .before .before .before .name-at .ensures))
+    ∙ ap (λ (r : Slot). foundBy (indexBy r (args .table .now)) (args .at + length (nameAt (args .s .now) (args .at))))
+    (sym (sym (c .before .before .before .before .search .ensures) ∙ c .before .before .k .given .1))
 
--- src/table.rt:143:1
 returns-2 : tie.Need-returns-2
 unfolding indexIn
-returns-2 c = ap (λ (r : Slot). foundBy (indexBy r (c .before .before .before .before .before .before .before .args .table .now)) (c .before .before .before .before .before .before .before .args .at + length (nameAt (c .before .before .before .before .before .before .before .args .s .now) (c .before .before .before .before .before .before .before .args .at)))) (sym (sym (c .before .before .search .ensures) ∙ c .enum-told .given .1))
+returns-2 c =
+    let args = c .before .before .before .before .before .before .before .args in
+    ap (λ (r : Slot). foundBy (indexBy r (args .table .now)) (args .at + length (nameAt (args .s .now) (args .at))))
+    (sym (sym (c .before .before .search .ensures) ∙ c .enum-told .given .1))
 
--- src/table.rt:143:1
 returns-3 : tie.Need-returns-3
 unfolding indexIn
-returns-3 c = ap (λ (r : Slot). foundBy (indexBy r (c .before .before .before .before .before .before .before .args .table .now)) (c .before .before .before .before .before .before .before .args .at + length (nameAt (c .before .before .before .before .before .before .before .args .s .now) (c .before .before .before .before .before .before .before .args .at)))) (sym (sym (c .before .before .search .ensures) ∙ c .enum-told2 .given .1))
+returns-3 c =
+    let args = c .before .before .before .before .before .before .before .args in
+    ap (λ (r : Slot). foundBy (indexBy r (args .table .now)) (args .at + length (nameAt (args .s .now) (args .at))))
+    (sym (sym (c .before .before .search .ensures) ∙ c .enum-told2 .given .1))
 
 pub find-spec : {M : Type 1} → statement M
 find-spec =

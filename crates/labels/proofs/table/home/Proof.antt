@@ -4,31 +4,24 @@ use borrow.Author.Needs.{needs}
 use Rattle.labels.proofs.table.home.Statement.{statement}
 use Rattle.labels.proofs.table.home.Tie as tie
 
--- src/table.rt:100:15
 mul-sum : tie.Need-mul-sum
 mul-sum c = search needs
 
--- src/table.rt:100:51
 mul-sum-2 : tie.Need-mul-sum-2
 mul-sum-2 c = search needs
 
--- src/table.rt:100:15
 add-sum : tie.Need-add-sum
 add-sum c = search needs
 
--- src/table.rt:101:9
 place-requires : tie.Need-place-requires
 place-requires c κs = search needs
 
--- src/table.rt:103:16
 mul-result : tie.Need-mul-result
 mul-result c = omega (arith, home-fits (c .before .before .args .w) (c .before .before .args .slots) (c .before .place .result) (c .before .place .ensures) (c .before .before .pre) (c .if1 .taken))
 
--- src/table.rt:103:9
 returns : tie.Need-returns
 returns c = home-scaled (c .before .before .args .w) (c .before .before .args .slots) (c .before .place .result) (c .before .place .ensures) (c .before .before .pre) (c .if1 .taken)
 
--- src/table.rt:96:1
 returns-2 : tie.Need-returns-2
 returns-2 c = home-whole (c .before .before .args .w) (c .before .before .args .slots) (c .before .place .result) (c .before .place .ensures) (c .before .before .pre) (c .if1 .left)
 

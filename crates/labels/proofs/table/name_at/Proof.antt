@@ -15,45 +15,53 @@ Inv-loop s at v₀ n₀ v n = NameRead s at v n
 abbrev μ-loop : tie.MeasureT-loop
 μ-loop s at v₀ n₀ v n = length s - n
 
--- src/table.rt:55:5
 loop-holds : tie.Need-loop-holds Inv-loop μ-loop
 loop-holds c = name-starts (c .before .args .s .now) (c .before .args .at)
 
--- src/table.rt:56:13
 byte-requires : tie.Need-byte-requires Inv-loop μ-loop
 byte-requires c κs = tt
 
--- src/table.rt:57:13
 part-requires : tie.Need-part-requires Inv-loop μ-loop
 part-requires c κs = tt
 
--- src/table.rt:58:13
 returns : tie.Need-returns Inv-loop μ-loop
-returns c = name-ends (c .before .before .before .before .before .args .s .now) (c .before .before .before .before .before .args .at) (c .before .before .before .loop .v) (c .before .before .before .loop .n) (c .before .before .before .loop .inv) (c .before .before .byte .result) (c .before .before .byte .ensures) (sym (c .before .part .ensures) ∙ not-true _ (c .if1 .taken))
+returns c =
+    let args = c .before .before .before .before .before .args in
+    let loop = c .before .before .before .loop in
+    name-ends (args .s .now) (args .at) (loop .v) (loop .n) (loop .inv) (c .before .before .byte .result) (c .before .before .byte .ensures)
+    (sym (c .before .part .ensures) ∙ not-true _ (c .if1 .taken))
 
--- src/table.rt:60:13
 mul-v : tie.Need-mul-v Inv-loop μ-loop
 mul-v c = omega arith
 
--- src/table.rt:60:48
 wide-requires : tie.Need-wide-requires Inv-loop μ-loop
 wide-requires c κs = tt
 
--- src/table.rt:60:13
 add-v : tie.Need-add-v Inv-loop μ-loop
 add-v c = omega (arith, c .wide .ensures, part-bounds (c .before .before .before .byte .result) (sym (c .before .before .part .ensures) ∙ not-false _ (c .before .if1 .left)))
 
--- src/table.rt:61:9
 add-n : tie.Need-add-n Inv-loop μ-loop
-add-n c = omega (arith, class-inside isPart (c .before .before .before .before .before .before .args .s .now) (c .before .before .before .before .loop .n) refl (ap isPart (sym (c .before .before .before .byte .ensures)) ∙ sym (c .before .before .part .ensures) ∙ not-false _ (c .before .if1 .left)))
+add-n c =
+    omega (
+      arith,
+      class-inside isPart (c .before .before .before .before .before .before .args .s .now) (c .before .before .before .before .loop .n) refl
+          (ap isPart (sym (c .before .before .before .byte .ensures)) ∙ sym (c .before .before .part .ensures) ∙ not-false _ (c .before .if1 .left)),
+    )
 
--- src/table.rt:55:5
 loop-less : tie.Need-loop-less Inv-loop μ-loop
-loop-less c = omega (arith, class-inside isPart (c .before .before .before .before .before .before .args .s .now) (c .before .before .before .before .loop .n) refl (ap isPart (sym (c .before .before .before .byte .ensures)) ∙ sym (c .before .before .part .ensures) ∙ not-false _ (c .before .if1 .left)))
+loop-less c =
+    omega (
+      arith,
+      class-inside isPart (c .before .before .before .before .before .before .args .s .now) (c .before .before .before .before .loop .n) refl
+          (ap isPart (sym (c .before .before .before .byte .ensures)) ∙ sym (c .before .before .part .ensures) ∙ not-false _ (c .before .if1 .left)),
+    )
 
--- src/table.rt:55:5
 loop-again : tie.Need-loop-again Inv-loop μ-loop
-loop-again c = name-on (c .before .before .before .before .before .before .args .s .now) (c .before .before .before .before .before .before .args .at) (c .before .before .before .before .loop .v) (c .before .before .before .before .loop .n) (c .before .before .before .before .loop .inv) (c .wide .result) (c .wide .ensures ∙ c .before .before .before .byte .ensures) (ap isPart (c .wide .ensures) ∙ sym (c .before .before .part .ensures) ∙ not-false _ (c .before .if1 .left))
+loop-again c =
+    let args = c .before .before .before .before .before .before .args in
+    let loop = c .before .before .before .before .loop in
+    name-on (args .s .now) (args .at) (loop .v) (loop .n) (loop .inv) (c .wide .result) (c .wide .ensures ∙ c .before .before .before .byte .ensures)
+    (ap isPart (c .wide .ensures) ∙ sym (c .before .before .part .ensures) ∙ not-false _ (c .before .if1 .left))
 
 pub name-at-spec : {M : Type 1} → statement M
 name-at-spec =

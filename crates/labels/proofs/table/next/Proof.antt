@@ -7,19 +7,15 @@ use borrow.Author.Needs.{needs}
 use Rattle.labels.proofs.table.next.Statement.{statement}
 use Rattle.labels.proofs.table.next.Tie as tie
 
--- src/table.rt:101:8
 add-if1 : tie.Need-add-if1
 add-if1 c = search needs
 
--- src/table.rt:102:9
 returns : tie.Need-returns
 returns c = (sym (ap (λ (t : Bool). cond t 0 (c .before .args .k + 1)) (eq-eqb _ _ (c .if1 .taken))), omega arith)
 
--- src/table.rt:104:5
 add-result : tie.Need-add-result
 add-result c = search needs
 
--- src/table.rt:97:1
 returns-2 : tie.Need-returns-2
 returns-2 c = (sym (ap (λ (t : Bool). cond t 0 (c .before .args .k + 1)) (ne-eqb _ _ (c .if1 .left))), omega (arith, c .if1 .left))
 

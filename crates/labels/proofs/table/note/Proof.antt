@@ -14,85 +14,136 @@ use borrow.Author.Needs.{needs}
 use Rattle.labels.proofs.table.note.Statement.{statement}
 use Rattle.labels.proofs.table.note.Tie as tie
 
--- src/table.rt:151:9
 name-at-requires : tie.Need-name-at-requires
 name-at-requires c κs = search needs
 
--- src/table.rt:152:11
 search-requires : tie.Need-search-requires
 search-requires c κs = search needs
 
--- src/table.rt:153:26
 enum-told : tie.Need-enum-told
 enum-told c = search needs
 
--- src/table.rt:154:20
 enum-known-k : tie.Need-enum-known-k
 enum-known-k c = search needs
 
--- src/table.rt:155:21
 mul-i : tie.Need-mul-i
-mul-i c = let a = c .before .before .before .before .before .before .before .before .args in omega (arith, free-below (a .text .now) (a .table .now) (nameAt (a .text .now) (a .at)) _ (sym (c .before .before .before .search .ensures) ∙ c .before .k .given .1))
+mul-i c =
+    let a = c .before .before .before .before .before .before .before .before .args in
+    omega (
+      arith,
+      free-below (a .text .now) (a .table .now) (nameAt (a .text .now) (a .at)) _
+          (sym (c .before .before .before .search .ensures) ∙ c .before .k .given .1),
+    )
 
--- src/table.rt:156:13
 mul-table : tie.Need-mul-table
-mul-table c = let a = c .before .before .before .before .before .before .before .before .args in omega (arith, free-below (a .text .now) (a .table .now) (nameAt (a .text .now) (a .at)) _ (sym (c .before .before .before .search .ensures) ∙ c .before .k .given .1))
+mul-table c =
+    let a = c .before .before .before .before .before .before .before .before .args in
+    omega (
+      arith,
+      free-below (a .text .now) (a .table .now) (nameAt (a .text .now) (a .at)) _
+          (sym (c .before .before .before .search .ensures) ∙ c .before .k .given .1),
+    )
 
--- src/table.rt:156:13
 slice-write-table : tie.Need-slice-write-table
-slice-write-table c = let a = c .before .before .before .before .before .before .before .before .args in omega (arith, free-below (a .text .now) (a .table .now) (nameAt (a .text .now) (a .at)) _ (sym (c .before .before .before .search .ensures) ∙ c .before .k .given .1))
+slice-write-table c =
+    let a = c .before .before .before .before .before .before .before .before .args in
+    omega (
+      arith,
+      free-below (a .text .now) (a .table .now) (nameAt (a .text .now) (a .at)) _
+          (sym (c .before .before .before .search .ensures) ∙ c .before .k .given .1),
+    )
 
--- src/table.rt:157:19
 add-table : tie.Need-add-table
-add-table c = let a = c .before .before .before .before .before .before .before .before .args in omega (arith, free-below (a .text .now) (a .table .now) (nameAt (a .text .now) (a .at)) _ (sym (c .before .before .before .search .ensures) ∙ c .before .k .given .1))
+add-table c =
+    let a = c .before .before .before .before .before .before .before .before .args in
+    omega (
+      arith,
+      free-below (a .text .now) (a .table .now) (nameAt (a .text .now) (a .at)) _
+          (sym (c .before .before .before .search .ensures) ∙ c .before .k .given .1),
+    )
 
--- src/table.rt:157:13
 mul-table-2 : tie.Need-mul-table-2
-mul-table-2 c = let a = c .before .before .before .before .before .before .before .before .args in omega (arith, free-below (a .text .now) (a .table .now) (nameAt (a .text .now) (a .at)) _ (sym (c .before .before .before .search .ensures) ∙ c .before .k .given .1))
+mul-table-2 c =
+    let a = c .before .before .before .before .before .before .before .before .args in
+    omega (
+      arith,
+      free-below (a .text .now) (a .table .now) (nameAt (a .text .now) (a .at)) _
+          (sym (c .before .before .before .search .ensures) ∙ c .before .k .given .1),
+    )
 
--- src/table.rt:157:13
 slice-write-table-2 : tie.Need-slice-write-table-2
-slice-write-table-2 c = let a = c .before .before .before .before .before .before .before .before .args in simp length-set (omega (arith, free-below (a .text .now) (a .table .now) (nameAt (a .text .now) (a .at)) _ (sym (c .before .before .before .search .ensures) ∙ c .before .k .given .1)))
+slice-write-table-2 c =
+    let a = c .before .before .before .before .before .before .before .before .args in
+    simp length-set
+    (omega (
+      arith,
+      free-below (a .text .now) (a .table .now) (nameAt (a .text .now) (a .at)) _
+          (sym (c .before .before .before .search .ensures) ∙ c .before .k .given .1),
+    ))
 
--- src/table.rt:158:19
 add-table-2 : tie.Need-add-table-2
-add-table-2 c = let a = c .before .before .before .before .before .before .before .before .args in omega (arith, free-below (a .text .now) (a .table .now) (nameAt (a .text .now) (a .at)) _ (sym (c .before .before .before .search .ensures) ∙ c .before .k .given .1))
+add-table-2 c =
+    let a = c .before .before .before .before .before .before .before .before .args in
+    omega (
+      arith,
+      free-below (a .text .now) (a .table .now) (nameAt (a .text .now) (a .at)) _
+          (sym (c .before .before .before .search .ensures) ∙ c .before .k .given .1),
+    )
 
--- src/table.rt:158:13
 mul-table-3 : tie.Need-mul-table-3
-mul-table-3 c = let a = c .before .before .before .before .before .before .before .before .args in omega (arith, free-below (a .text .now) (a .table .now) (nameAt (a .text .now) (a .at)) _ (sym (c .before .before .before .search .ensures) ∙ c .before .k .given .1))
+mul-table-3 c =
+    let a = c .before .before .before .before .before .before .before .before .args in
+    omega (
+      arith,
+      free-below (a .text .now) (a .table .now) (nameAt (a .text .now) (a .at)) _
+          (sym (c .before .before .before .search .ensures) ∙ c .before .k .given .1),
+    )
 
--- src/table.rt:158:13
 slice-write-table-3 : tie.Need-slice-write-table-3
-slice-write-table-3 c = let a = c .before .before .before .before .before .before .before .before .args in simp length-set (omega (arith, free-below (a .text .now) (a .table .now) (nameAt (a .text .now) (a .at)) _ (sym (c .before .before .before .search .ensures) ∙ c .before .k .given .1)))
+slice-write-table-3 c =
+    let a = c .before .before .before .before .before .before .before .before .args in
+    simp length-set
+    (omega (
+      arith,
+      free-below (a .text .now) (a .table .now) (nameAt (a .text .now) (a .at)) _
+          (sym (c .before .before .before .search .ensures) ∙ c .before .k .given .1),
+    ))
 
--- src/table.rt:161:23
 enum-told-2 : tie.Need-enum-told-2
 enum-told-2 c = search needs
 
--- src/table.rt:147:1
 same-length : tie.Need-same-length
 same-length c = search needs
 
--- src/table.rt:147:1
 returns : tie.Need-returns
-returns c = let a = c .before .before .before .before .before .before .before .args in let e = sym (c .before .before .search .ensures) ∙ c .enum-told .given .1 in (ap notedBy (sym e), ap (λ (r : Slot). withLabel r (a .table .now) (a .at) (keyOf (nameAt (a .text .now) (a .at))) (a .index)) (sym e))
+returns c =
+    let a = c .before .before .before .before .before .before .before .args in
+    let e = sym (c .before .before .search .ensures) ∙ c .enum-told .given .1 in
+    (ap notedBy (sym e), ap (λ (r : Slot). withLabel r (a .table .now) (a .at) (keyOf (nameAt (a .text .now) (a .at))) (a .index)) (sym e))
 
--- src/table.rt:147:1
 same-length-2 : tie.Need-same-length-2
 same-length-2 c = search needs
 
--- src/table.rt:147:1
 returns-2 : tie.Need-returns-2
-returns-2 c = let a = c .before .before .before .before .before .before .before .before .args in let e = sym (c .before .before .before .search .ensures) ∙ c .before .k .given .1 in let key = keyOf (nameAt (a .text .now) (a .at)) in (ap notedBy (sym e), three-sets (a .table .now) (3 * c .before .k .given .0 .0) (a .at) (c .before .before .before .before .before .name-at .result .key) (a .index) ∙ ap (λ (q : ℕ). sets (a .table .now) (3 * c .before .k .given .0 .0) (a .at ∷ (q ∷ (a .index ∷ [])))) (ap (λ (n : Name). n .key) (c .before .before .before .before .before .name-at .ensures)) ∙ ap (λ (r : Slot). withLabel r (a .table .now) (a .at) key (a .index)) (sym e))
+returns-2 c =
+    let a = c .before .before .before .before .before .before .before .before .args in
+    let e = sym (c .before .before .before .search .ensures) ∙ c .before .k .given .1 in
+    let key = keyOf (nameAt (a .text .now) (a .at)) in (
+      ap notedBy (sym e),
+      three-sets (a .table .now) (3 * c .before .k .given .0 .0) (a .at) (c .before .before .before .before .before .name-at .result .key) (a .index)
+          ∙ ap (λ (q : ℕ). sets (a .table .now) (3 * c .before .k .given .0 .0) (a .at ∷ (q ∷ (a .index ∷ []))))
+          (ap (λ (n : Name). n .key) (c .before .before .before .before .before .name-at .ensures))
+          ∙ ap (λ (r : Slot). withLabel r (a .table .now) (a .at) key (a .index)) (sym e),
+    )
 
--- src/table.rt:147:1
 same-length-3 : tie.Need-same-length-3
 same-length-3 c = search needs
 
--- src/table.rt:147:1
 returns-3 : tie.Need-returns-3
-returns-3 c = let a = c .before .before .before .before .before .before .before .args in let e = sym (c .before .before .search .ensures) ∙ c .enum-told2 .given .1 in (ap notedBy (sym e), ap (λ (r : Slot). withLabel r (a .table .now) (a .at) (keyOf (nameAt (a .text .now) (a .at))) (a .index)) (sym e))
+returns-3 c =
+    let a = c .before .before .before .before .before .before .before .args in
+    let e = sym (c .before .before .search .ensures) ∙ c .enum-told2 .given .1 in
+    (ap notedBy (sym e), ap (λ (r : Slot). withLabel r (a .table .now) (a .at) (keyOf (nameAt (a .text .now) (a .at))) (a .index)) (sym e))
 
 pub note-spec : {M : Type 1} → statement M
 note-spec =

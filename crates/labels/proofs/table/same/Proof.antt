@@ -14,45 +14,76 @@ Inv-loop text p s at after i₀ j₀ i j = Compared text p s at after i j
 abbrev μ-loop : tie.MeasureT-loop
 μ-loop text p s at after i₀ j₀ i j = length s - j
 
--- src/table.rt:72:5
 loop-holds : tie.Need-loop-holds Inv-loop μ-loop
 loop-holds c = record { rest = refl; to = c .before .before .pre }
 
--- src/table.rt:73:13
 byte-requires : tie.Need-byte-requires Inv-loop μ-loop
 byte-requires c κs = tt
 
--- src/table.rt:75:21
 part-requires : tie.Need-part-requires Inv-loop μ-loop
 part-requires c κs = tt
 
--- src/table.rt:75:13
 returns : tie.Need-returns Inv-loop μ-loop
-returns c = ap not (c .part .ensures) ∙ compared-all (c .before .before .before .before .before .before .args .text .now) (c .before .before .before .before .before .before .args .p) (c .before .before .before .before .before .before .args .s .now) (c .before .before .before .before .before .before .args .at) (c .before .before .before .before .before .before .args .after) (c .before .before .before .loop .i) (c .before .before .before .loop .j) (c .before .before .before .loop .inv) (c .before .before .byte .result) (c .before .before .byte .ensures) (c .before .if1 .taken)
+returns c =
+    let args = c .before .before .before .before .before .before .args in
+    let loop = c .before .before .before .loop in
+    ap not (c .part .ensures)
+    ∙ compared-all (args .text .now) (args .p) (args .s .now) (args .at) (args .after) (loop .i) (loop .j) (loop .inv) (c .before .before .byte .result)
+    (c .before .before .byte .ensures) (c .before .if1 .taken)
 
--- src/table.rt:77:17
 shared-slice-read-if2 : tie.Need-shared-slice-read-if2 Inv-loop μ-loop
-shared-slice-read-if2 c = second-inside (c .before .before .before .before .before .before .args .text .now) (c .before .before .before .before .before .before .args .p) (c .before .before .before .before .before .before .args .s .now) (c .before .before .before .before .before .before .args .at) (c .before .before .before .before .before .before .args .after) (c .before .before .before .loop .i) (c .before .before .before .loop .j) (c .before .before .before .loop .inv) (c .before .before .byte .result) (c .before .before .byte .ensures) (c .before .if1 .left)
+shared-slice-read-if2 c =
+    let args = c .before .before .before .before .before .before .args in
+    let loop = c .before .before .before .loop in
+    second-inside (args .text .now) (args .p) (args .s .now) (args .at) (args .after) (loop .i) (loop .j) (loop .inv)
+    (c .before .before .byte .result) (c .before .before .byte .ensures) (c .before .if1 .left)
 
--- src/table.rt:78:13
 returns-2 : tie.Need-returns-2 Inv-loop μ-loop
-returns-2 c = compared-not (c .before .before .before .before .before .before .before .args .text .now) (c .before .before .before .before .before .before .before .args .p) (c .before .before .before .before .before .before .before .args .s .now) (c .before .before .before .before .before .before .before .args .at) (c .before .before .before .before .before .before .before .args .after) (c .before .before .before .before .loop .i) (c .before .before .before .before .loop .j) (c .before .before .before .before .loop .inv) (c .before .before .before .byte .result) (c .before .before .before .byte .ensures) (c .before .before .if1 .left) _ (sym (head-drop (c .before .before .before .before .before .before .before .args .s .now) (c .before .before .before .before .loop .j))) (c .if2 .taken)
+returns-2 c =
+    let args = c .before .before .before .before .before .before .before .args in
+    let loop = c .before .before .before .before .loop in
+    compared-not (args .text .now) (args .p) (args .s .now) (args .at) (args .after) (loop .i) (loop .j) (loop .inv)
+    (c .before .before .before .byte .result) (c .before .before .before .byte .ensures) (c .before .before .if1 .left) _
+    (sym (head-drop (args .s .now) (loop .j))) (c .if2 .taken)
 
--- src/table.rt:80:9
 add-i : tie.Need-add-i Inv-loop μ-loop
-add-i c = omega (arith, first-inside (c .before .before .before .before .before .before .before .args .text .now) (c .before .before .before .before .before .before .before .args .p) (c .before .before .before .before .before .before .before .args .s .now) (c .before .before .before .before .before .before .before .args .at) (c .before .before .before .before .before .before .before .args .after) (c .before .before .before .before .loop .i) (c .before .before .before .before .loop .j) (c .before .before .before .before .loop .inv) (c .before .before .before .byte .result) (c .before .before .before .byte .ensures) (c .before .before .if1 .left) _ (sym (head-drop (c .before .before .before .before .before .before .before .args .s .now) (c .before .before .before .before .loop .j))) (c .if2 .left))
+add-i c =
+    let args = c .before .before .before .before .before .before .before .args in
+    let loop = c .before .before .before .before .loop in
+    omega (
+      arith,
+      first-inside (args .text .now) (args .p) (args .s .now) (args .at) (args .after) (loop .i) (loop .j) (loop .inv)
+          (c .before .before .before .byte .result) (c .before .before .before .byte .ensures) (c .before .before .if1 .left) _
+          (sym (head-drop (args .s .now) (loop .j))) (c .if2 .left),
+    )
 
--- src/table.rt:81:9
 add-j : tie.Need-add-j Inv-loop μ-loop
-add-j c = omega (arith, second-inside (c .before .before .before .before .before .before .before .args .text .now) (c .before .before .before .before .before .before .before .args .p) (c .before .before .before .before .before .before .before .args .s .now) (c .before .before .before .before .before .before .before .args .at) (c .before .before .before .before .before .before .before .args .after) (c .before .before .before .before .loop .i) (c .before .before .before .before .loop .j) (c .before .before .before .before .loop .inv) (c .before .before .before .byte .result) (c .before .before .before .byte .ensures) (c .before .before .if1 .left))
+add-j c =
+    let args = c .before .before .before .before .before .before .before .args in
+    let loop = c .before .before .before .before .loop in
+    omega (
+      arith,
+      second-inside (args .text .now) (args .p) (args .s .now) (args .at) (args .after) (loop .i) (loop .j) (loop .inv)
+          (c .before .before .before .byte .result) (c .before .before .before .byte .ensures) (c .before .before .if1 .left),
+    )
 
--- src/table.rt:72:5
 loop-less : tie.Need-loop-less Inv-loop μ-loop
-loop-less c = omega (arith, second-inside (c .before .before .before .before .before .before .before .args .text .now) (c .before .before .before .before .before .before .before .args .p) (c .before .before .before .before .before .before .before .args .s .now) (c .before .before .before .before .before .before .before .args .at) (c .before .before .before .before .before .before .before .args .after) (c .before .before .before .before .loop .i) (c .before .before .before .before .loop .j) (c .before .before .before .before .loop .inv) (c .before .before .before .byte .result) (c .before .before .before .byte .ensures) (c .before .before .if1 .left))
+loop-less c =
+    let args = c .before .before .before .before .before .before .before .args in
+    let loop = c .before .before .before .before .loop in
+    omega (
+      arith,
+      second-inside (args .text .now) (args .p) (args .s .now) (args .at) (args .after) (loop .i) (loop .j) (loop .inv)
+          (c .before .before .before .byte .result) (c .before .before .before .byte .ensures) (c .before .before .if1 .left),
+    )
 
--- src/table.rt:72:5
 loop-again : tie.Need-loop-again Inv-loop μ-loop
-loop-again c = compared-on (c .before .before .before .before .before .before .before .args .text .now) (c .before .before .before .before .before .before .before .args .p) (c .before .before .before .before .before .before .before .args .s .now) (c .before .before .before .before .before .before .before .args .at) (c .before .before .before .before .before .before .before .args .after) (c .before .before .before .before .loop .i) (c .before .before .before .before .loop .j) (c .before .before .before .before .loop .inv) (c .before .before .before .byte .result) (c .before .before .before .byte .ensures) (c .before .before .if1 .left) _ (sym (head-drop (c .before .before .before .before .before .before .before .args .s .now) (c .before .before .before .before .loop .j))) (c .if2 .left)
+loop-again c =
+    let args = c .before .before .before .before .before .before .before .args in
+    let loop = c .before .before .before .before .loop in
+    compared-on (args .text .now) (args .p) (args .s .now) (args .at) (args .after) (loop .i) (loop .j) (loop .inv)
+    (c .before .before .before .byte .result) (c .before .before .before .byte .ensures) (c .before .before .if1 .left) _
+    (sym (head-drop (args .s .now) (loop .j))) (c .if2 .left)
 
 pub same-spec : {M : Type 1} → statement M
 same-spec =

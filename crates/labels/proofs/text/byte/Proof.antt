@@ -5,15 +5,12 @@ use borrow.Author.Needs.{needs}
 use Rattle.labels.proofs.text.byte.Statement.{statement}
 use Rattle.labels.proofs.text.byte.Tie as tie
 
--- src/text.rt:13:16
 shared-slice-read-result : tie.Need-shared-slice-read-result
 shared-slice-read-result c = search needs
 
--- src/text.rt:13:9
 returns : tie.Need-returns
 returns c = sym (head-drop (c .before .before .args .s .now) (c .before .before .args .at))
 
--- src/text.rt:9:1
 returns-2 : tie.Need-returns-2
 returns-2 c = head-end (c .before .args .s .now) (c .before .args .at) (c .if1 .left)
 

@@ -2,15 +2,12 @@ use borrow.Author.Needs.{needs}
 use Rattle.labels.proofs.text.part.Statement.{statement}
 use Rattle.labels.proofs.text.part.Tie as tie
 
--- src/text.rt:33:5
 letter-requires : tie.Need-letter-requires
 letter-requires c κs = search needs
 
--- src/text.rt:33:17
 digit-requires : tie.Need-digit-requires
 digit-requires c κs = search needs
 
--- src/text.rt:30:1
 returns : tie.Need-returns
 returns c = simp (c .before .letter .ensures, c .digit .ensures)
 

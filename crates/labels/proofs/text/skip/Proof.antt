@@ -14,27 +14,21 @@ Inv-loop s at n₀ n = Going isSpace s at n
 abbrev μ-loop : tie.MeasureT-loop
 μ-loop s at n₀ n = length s - n
 
--- src/text.rt:41:5
 loop-holds : tie.Need-loop-holds Inv-loop μ-loop
 loop-holds c = starts isSpace _ _
 
--- src/text.rt:42:13
 byte-requires : tie.Need-byte-requires Inv-loop μ-loop
 byte-requires c κs = tt
 
--- src/text.rt:44:13
 returns : tie.Need-returns Inv-loop μ-loop
 returns c = passed-over isSpace _ _ _ (stops isSpace _ _ _ (c .before .before .loop .inv) (ne-eqb _ _ (λ z. c .if1 .taken (c .before .byte .ensures ∙ z))))
 
--- src/text.rt:46:9
 add-n : tie.Need-add-n Inv-loop μ-loop
 add-n c = omega (arith, class-inside isSpace _ (c .before .before .loop .n) refl (eq-eqb _ _ (sym (c .before .byte .ensures) ∙ c .if1 .left)))
 
--- src/text.rt:41:5
 loop-less : tie.Need-loop-less Inv-loop μ-loop
 loop-less c = omega (arith, class-inside isSpace _ (c .before .before .loop .n) refl (eq-eqb _ _ (sym (c .before .byte .ensures) ∙ c .if1 .left)))
 
--- src/text.rt:41:5
 loop-again : tie.Need-loop-again Inv-loop μ-loop
 loop-again c = goes-on isSpace _ _ _ (c .before .before .loop .inv) refl (eq-eqb _ _ (sym (c .before .byte .ensures) ∙ c .if1 .left))
 

@@ -4,11 +4,9 @@ use borrow.Author.Needs.{needs}
 use Rattle.lines.proofs.instructions.bits.Statement.{statement}
 use Rattle.lines.proofs.instructions.bits.Tie as tie
 
--- src/instructions.rt:45:5
 wrapping-add-u64-requires : tie.Need-wrapping-add-u64-requires
 wrapping-add-u64-requires c κs = search needs
 
--- src/instructions.rt:42:1
 returns : tie.Need-returns
 returns c = c .wrapping-add-u64 .ensures ∙ bits-of (c .before .args .v) (c .before .fits .v .fits)
 

@@ -11,70 +11,95 @@ use borrow.Author.Needs.{needs}
 use Rattle.lines.proofs.instructions.three_registers.Statement.{statement}
 use Rattle.lines.proofs.instructions.three_registers.Tie as tie
 
--- src/instructions.rt:52:25
 register-comma-requires : tie.Need-register-comma-requires
 register-comma-requires c κs = search needs
 
--- src/instructions.rt:52:17
 enum-known-a : tie.Need-enum-known-a
 enum-known-a c = search needs
 
--- src/instructions.rt:53:9
 enum-told : tie.Need-enum-told
 enum-told c = search needs
 
--- src/instructions.rt:53:9
 returns : tie.Need-returns
-returns c = none-word (c .before .before .before .before .args .op) _ (first-bad (lookIn [] [] 0) register register (register ∷ []) (drop (c .before .before .before .before .args .at) (c .before .before .before .before .args .s .now)) (c .before .before .register-comma .ensures .0 ∙ ap (regSeen (c .before .before .before .before .args .s .now)) (c .enum-told .given .1)))
+returns c =
+    let args = c .before .before .before .before .args in
+    none-word (args .op) _
+    (first-bad (lookIn [] [] 0) register register (register ∷ []) (drop (args .at) (args .s .now))
+    (c .before .before .register-comma .ensures .0 ∙ ap (regSeen (args .s .now)) (c .enum-told .given .1)))
 
--- src/instructions.rt:55:25
 register-comma-requires-2 : tie.Need-register-comma-requires-2
 register-comma-requires-2 c κs = search needs
 
--- src/instructions.rt:55:17
 enum-known-b : tie.Need-enum-known-b
 enum-known-b c = search needs
 
--- src/instructions.rt:56:9
 enum-told-2 : tie.Need-enum-told-2
 enum-told-2 c = search needs
 
--- src/instructions.rt:56:9
 returns-2 : tie.Need-returns-2
-returns-2 c = let s = c .before .before .before .before .before .before .before .before .args .s .now in let look = lookIn [] [] 0 in
-    none-word (c .before .before .before .before .before .before .before .before .args .op) _ (first-got look register register (register ∷ []) (drop (c .before .before .before .before .before .before .before .before .args .at) s) (pos (c .before .before .before .before .a .given .0 .0)) (drop (c .before .before .before .before .a .given .0 .1 .0) s) none (c .before .before .before .before .before .before .register-comma .ensures .0 ∙ ap (regSeen s) (c .before .before .before .before .a .given .1))
-    (first-bad look register register [] (drop (c .before .before .before .before .a .given .0 .1 .0) s) (c .before .before .register-comma2 .ensures .0 ∙ ap (regSeen s) (c .enum-told2 .given .1))))
+returns-2 c =
+    let args = c .before .before .before .before .before .before .before .before .args in
+    let s = args .s .now in
+    let look = lookIn [] [] 0 in
+    none-word (args .op) _
+    (first-got look register register (register ∷ []) (drop (args .at) s) (pos (c .before .before .before .before .a .given .0 .0))
+    (drop (c .before .before .before .before .a .given .0 .1 .0) s) none
+    (c .before .before .before .before .before .before .register-comma .ensures .0 ∙ ap (regSeen s) (c .before .before .before .before .a .given .1))
+    (first-bad look register register [] (drop (c .before .before .before .before .a .given .0 .1 .0) s)
+    (c .before .before .register-comma2 .ensures .0 ∙ ap (regSeen s) (c .enum-told2 .given .1))))
 
--- src/instructions.rt:58:25
 register-last-requires : tie.Need-register-last-requires
 register-last-requires c κs = search needs
 
--- src/instructions.rt:58:17
 enum-known-c : tie.Need-enum-known-c
 enum-known-c c = search needs
 
--- src/instructions.rt:59:9
 enum-told-3 : tie.Need-enum-told-3
 enum-told-3 c = search needs
 
--- src/instructions.rt:59:9
 returns-3 : tie.Need-returns-3
-returns-3 c = let s = c .before .before .before .before .before .before .before .before .before .before .before .before .args .s .now in let look = lookIn [] [] 0 in
-    none-word (c .before .before .before .before .before .before .before .before .before .before .before .before .args .op) _ (first-got look register register (register ∷ []) (drop (c .before .before .before .before .before .before .before .before .before .before .before .before .args .at) s) (pos (c .before .before .before .before .before .before .before .before .a .given .0 .0)) (drop (c .before .before .before .before .before .before .before .before .a .given .0 .1 .0) s) none (c .before .before .before .before .before .before .before .before .before .before .register-comma .ensures .0 ∙ ap (regSeen s) (c .before .before .before .before .before .before .before .before .a .given .1))
-    (first-got look register register [] (drop (c .before .before .before .before .before .before .before .before .a .given .0 .1 .0) s) (pos (c .before .before .before .before .b .given .0 .0)) (drop (c .before .before .before .before .b .given .0 .1 .0) s) none (c .before .before .before .before .before .before .register-comma2 .ensures .0 ∙ ap (regSeen s) (c .before .before .before .before .b .given .1))
-    (last-none look register (drop (c .before .before .before .before .b .given .0 .1 .0) s) (c .before .before .register-last .ensures .0 ∙ ap (regSeen s) (c .enum-told3 .given .1)))))
+returns-3 c =
+    let args = c .before .before .before .before .before .before .before .before .before .before .before .before .args in
+    let s = args .s .now in
+    let look = lookIn [] [] 0 in
+    none-word (args .op) _
+    (first-got look register register (register ∷ []) (drop (args .at) s)
+    (pos (c .before .before .before .before .before .before .before .before .a .given .0 .0))
+    (drop (c .before .before .before .before .before .before .before .before .a .given .0 .1 .0) s) none
+    (c .before .before .before .before .before .before .before .before .before .before .register-comma .ensures .0
+    ∙ ap (regSeen s) (c .before .before .before .before .before .before .before .before .a .given .1))
+    (first-got look register register [] (drop (c .before .before .before .before .before .before .before .before .a .given .0 .1 .0) s)
+    (pos (c .before .before .before .before .b .given .0 .0)) (drop (c .before .before .before .before .b .given .0 .1 .0) s) none
+    (c .before .before .before .before .before .before .register-comma2 .ensures .0 ∙ ap (regSeen s) (c .before .before .before .before .b .given .1))
+    (last-none look register (drop (c .before .before .before .before .b .given .0 .1 .0) s)
+    (c .before .before .register-last .ensures .0 ∙ ap (regSeen s) (c .enum-told3 .given .1)))))
 
--- src/instructions.rt:61:5
 word-requires : tie.Need-word-requires
 word-requires c κs = search needs
 
--- src/instructions.rt:48:1
 returns-4 : tie.Need-returns-4
-returns-4 c = let s = c .before .before .before .before .before .before .before .before .before .before .before .before .before .before .args .s .now in let look = lookIn [] [] 0 in
-    let a = c .before .before .before .before .before .before .before .before .before .before .a .given .0 .0 in let b = c .before .before .before .before .before .before .b .given .0 .0 in let d = c .before .before .c .given .0 .0 in
-    some-word (c .before .before .before .before .before .before .before .before .before .before .before .before .before .before .args .op) _ (pos a ∷ (pos b ∷ (pos d ∷ []))) (parts (c .before .before .before .before .before .before .before .before .before .before .before .before .before .before .args .op) a b d 0) (first-got look register register (register ∷ []) (drop (c .before .before .before .before .before .before .before .before .before .before .before .before .before .before .args .at) s) (pos a) (drop (c .before .before .before .before .before .before .before .before .before .before .a .given .0 .1 .0) s) (some (pos b ∷ (pos d ∷ []))) (c .before .before .before .before .before .before .before .before .before .before .before .before .register-comma .ensures .0 ∙ ap (regSeen s) (c .before .before .before .before .before .before .before .before .before .before .a .given .1))
-    (first-got look register register [] (drop (c .before .before .before .before .before .before .before .before .before .before .a .given .0 .1 .0) s) (pos b) (drop (c .before .before .before .before .before .before .b .given .0 .1 .0) s) (some (pos d ∷ [])) (c .before .before .before .before .before .before .before .before .register-comma2 .ensures .0 ∙ ap (regSeen s) (c .before .before .before .before .before .before .b .given .1))
-    (last-some look register (drop (c .before .before .before .before .before .before .b .given .0 .1 .0) s) (pos d) _ (c .before .before .before .before .register-last .ensures .0 ∙ ap (regSeen s) (c .before .before .c .given .1))))) (parts-three (c .before .before .before .before .before .before .before .before .before .before .before .before .before .before .args .op) a b d (c .before .before .before .before .before .before .before .before .before .before .before .before .before .before .pre)) ∙ c .word .ensures
+returns-4 c =
+    let args = c .before .before .before .before .before .before .before .before .before .before .before .before .before .before .args in
+    let s = args .s .now in
+    let look = lookIn [] [] 0 in
+    let a = c .before .before .before .before .before .before .before .before .before .before .a .given .0 .0 in
+    let b = c .before .before .before .before .before .before .b .given .0 .0 in
+    let d = c .before .before .c .given .0 .0 in
+    some-word (args .op) _ (pos a ∷ (pos b ∷ (pos d ∷ []))) (parts (args .op) a b d 0)
+    (first-got look register register (register ∷ []) (drop (args .at) s) (pos a)
+    (drop (c .before .before .before .before .before .before .before .before .before .before .a .given .0 .1 .0) s) (some (pos b ∷ (pos d ∷ [])))
+    (c .before .before .before .before .before .before .before .before .before .before .before .before .register-comma .ensures .0
+    ∙ ap (regSeen s) (c .before .before .before .before .before .before .before .before .before .before .a .given .1))
+    (first-got look register register []
+    (drop (c .before .before .before .before .before .before .before .before .before .before .a .given .0 .1 .0) s) (pos b)
+    (drop (c .before .before .before .before .before .before .b .given .0 .1 .0) s) (some (pos d ∷ []))
+    (c .before .before .before .before .before .before .before .before .register-comma2 .ensures .0
+    ∙ ap (regSeen s) (c .before .before .before .before .before .before .b .given .1))
+    (last-some look register (drop (c .before .before .before .before .before .before .b .given .0 .1 .0) s) (pos d) _
+    (c .before .before .before .before .register-last .ensures .0 ∙ ap (regSeen s) (c .before .before .c .given .1)))))
+    (parts-three (args .op) a b d
+    (c .before .before .before .before .before .before .before .before .before .before .before .before .before .before .pre))
+    ∙ c .word .ensures
 
 pub three-registers-spec : {M : Type 1} → statement M
 three-registers-spec =

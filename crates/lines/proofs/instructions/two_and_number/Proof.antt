@@ -11,75 +11,107 @@ use borrow.Author.Needs.{needs}
 use Rattle.lines.proofs.instructions.two_and_number.Statement.{statement}
 use Rattle.lines.proofs.instructions.two_and_number.Tie as tie
 
--- src/instructions.rt:74:25
 register-comma-requires : tie.Need-register-comma-requires
 register-comma-requires c κs = search needs
 
--- src/instructions.rt:74:17
 enum-known-a : tie.Need-enum-known-a
 enum-known-a c = search needs
 
--- src/instructions.rt:75:9
 enum-told : tie.Need-enum-told
 enum-told c = search needs
 
--- src/instructions.rt:75:9
 returns : tie.Need-returns
-returns c = let s = c .before .before .before .before .before .before .args .s .now in let look = lookIn (c .before .before .before .before .before .before .args .text .now) (c .before .before .before .before .before .before .args .table .now) (c .before .before .before .before .before .before .args .base) in
-    none-word (c .before .before .before .before .before .before .args .op) _ (first-bad look register register (immediate ∷ []) (drop (c .before .before .before .before .before .before .args .at) s) (register-any look (lookIn [] [] 0) _ _ (c .before .before .register-comma .ensures .0 ∙ ap (regSeen s) (c .enum-told .given .1))))
+returns c =
+    let args = c .before .before .before .before .before .before .args in
+    let s = args .s .now in
+    let look = lookIn (args .text .now) (args .table .now) (args .base) in
+    none-word (args .op) _
+    (first-bad look register register (immediate ∷ []) (drop (args .at) s)
+    (register-any look (lookIn [] [] 0) _ _ (c .before .before .register-comma .ensures .0 ∙ ap (regSeen s) (c .enum-told .given .1))))
 
--- src/instructions.rt:77:25
 register-comma-requires-2 : tie.Need-register-comma-requires-2
 register-comma-requires-2 c κs = search needs
 
--- src/instructions.rt:77:17
 enum-known-b : tie.Need-enum-known-b
 enum-known-b c = search needs
 
--- src/instructions.rt:78:9
 enum-told-2 : tie.Need-enum-told-2
 enum-told-2 c = search needs
 
--- src/instructions.rt:78:9
 returns-2 : tie.Need-returns-2
-returns-2 c = let s = c .before .before .before .before .before .before .before .before .before .before .args .s .now in let look = lookIn (c .before .before .before .before .before .before .before .before .before .before .args .text .now) (c .before .before .before .before .before .before .before .before .before .before .args .table .now) (c .before .before .before .before .before .before .before .before .before .before .args .base) in
-    none-word (c .before .before .before .before .before .before .before .before .before .before .args .op) _ (first-got look register register (immediate ∷ []) (drop (c .before .before .before .before .before .before .before .before .before .before .args .at) s) (pos (c .before .before .before .before .a .given .0 .0)) (drop (c .before .before .before .before .a .given .0 .1 .0) s) none (register-any look (lookIn [] [] 0) _ _ (c .before .before .before .before .before .before .register-comma .ensures .0 ∙ ap (regSeen s) (c .before .before .before .before .a .given .1)))
-    (first-bad look register immediate [] (drop (c .before .before .before .before .a .given .0 .1 .0) s) (register-any look (lookIn [] [] 0) _ _ (c .before .before .register-comma2 .ensures .0 ∙ ap (regSeen s) (c .enum-told2 .given .1)))))
+returns-2 c =
+    let args = c .before .before .before .before .before .before .before .before .before .before .args in
+    let s = args .s .now in
+    let look = lookIn (args .text .now) (args .table .now) (args .base) in
+    none-word (args .op) _
+    (first-got look register register (immediate ∷ []) (drop (args .at) s) (pos (c .before .before .before .before .a .given .0 .0))
+    (drop (c .before .before .before .before .a .given .0 .1 .0) s) none
+    (register-any look (lookIn [] [] 0) _ _
+    (c .before .before .before .before .before .before .register-comma .ensures .0 ∙ ap (regSeen s) (c .before .before .before .before .a .given .1)))
+    (first-bad look register immediate [] (drop (c .before .before .before .before .a .given .0 .1 .0) s)
+    (register-any look (lookIn [] [] 0) _ _ (c .before .before .register-comma2 .ensures .0 ∙ ap (regSeen s) (c .enum-told2 .given .1)))))
 
--- src/instructions.rt:80:29
 number-last-requires : tie.Need-number-last-requires
 number-last-requires c κs = search needs
 
--- src/instructions.rt:80:21
 enum-known-v : tie.Need-enum-known-v
 enum-known-v c = search needs
 
--- src/instructions.rt:81:9
 enum-told-3 : tie.Need-enum-told-3
 enum-told-3 c = search needs
 
--- src/instructions.rt:81:9
 returns-3 : tie.Need-returns-3
-returns-3 c = let s = c .before .before .before .before .before .before .before .before .before .before .before .before .before .before .args .s .now in let look = lookIn (c .before .before .before .before .before .before .before .before .before .before .before .before .before .before .args .text .now) (c .before .before .before .before .before .before .before .before .before .before .before .before .before .before .args .table .now) (c .before .before .before .before .before .before .before .before .before .before .before .before .before .before .args .base) in
-    none-word (c .before .before .before .before .before .before .before .before .before .before .before .before .before .before .args .op) _ (first-got look register register (immediate ∷ []) (drop (c .before .before .before .before .before .before .before .before .before .before .before .before .before .before .args .at) s) (pos (c .before .before .before .before .before .before .before .before .a .given .0 .0)) (drop (c .before .before .before .before .before .before .before .before .a .given .0 .1 .0) s) none (register-any look (lookIn [] [] 0) _ _ (c .before .before .before .before .before .before .before .before .before .before .register-comma .ensures .0 ∙ ap (regSeen s) (c .before .before .before .before .before .before .before .before .a .given .1)))
-    (first-got look register immediate [] (drop (c .before .before .before .before .before .before .before .before .a .given .0 .1 .0) s) (pos (c .before .before .before .before .b .given .0 .0)) (drop (c .before .before .before .before .b .given .0 .1 .0) s) none (register-any look (lookIn [] [] 0) _ _ (c .before .before .before .before .before .before .register-comma2 .ensures .0 ∙ ap (regSeen s) (c .before .before .before .before .b .given .1)))
-    (last-none look immediate (drop (c .before .before .before .before .b .given .0 .1 .0) s) (c .before .before .number-last .ensures ∙ ap (readTo s) (c .enum-told3 .given .1)))))
+returns-3 c =
+    let args = c .before .before .before .before .before .before .before .before .before .before .before .before .before .before .args in
+    let s = args .s .now in
+    let look = lookIn (args .text .now) (args .table .now) (args .base) in
+    none-word (args .op) _
+    (first-got look register register (immediate ∷ []) (drop (args .at) s)
+    (pos (c .before .before .before .before .before .before .before .before .a .given .0 .0))
+    (drop (c .before .before .before .before .before .before .before .before .a .given .0 .1 .0) s) none
+    (register-any look (lookIn [] [] 0) _ _
+    (c .before .before .before .before .before .before .before .before .before .before .register-comma .ensures .0
+    ∙ ap (regSeen s) (c .before .before .before .before .before .before .before .before .a .given .1)))
+    (first-got look register immediate [] (drop (c .before .before .before .before .before .before .before .before .a .given .0 .1 .0) s)
+    (pos (c .before .before .before .before .b .given .0 .0)) (drop (c .before .before .before .before .b .given .0 .1 .0) s) none
+    (register-any look (lookIn [] [] 0) _ _
+    (c .before .before .before .before .before .before .register-comma2 .ensures .0 ∙ ap (regSeen s) (c .before .before .before .before .b .given .1)))
+    (last-none look immediate (drop (c .before .before .before .before .b .given .0 .1 .0) s)
+    (c .before .before .number-last .ensures ∙ ap (readTo s) (c .enum-told3 .given .1)))))
 
--- src/instructions.rt:88:14
 bits-requires : tie.Need-bits-requires
 bits-requires c κs = search needs
 
--- src/instructions.rt:83:5
 word-requires : tie.Need-word-requires
 word-requires c κs = search needs
 
--- src/instructions.rt:70:1
 returns-4 : tie.Need-returns-4
-returns-4 c = let s = c .before .before .before .before .before .before .before .before .before .before .before .before .before .before .before .before .before .args .s .now in let look = lookIn (c .before .before .before .before .before .before .before .before .before .before .before .before .before .before .before .before .before .args .text .now) (c .before .before .before .before .before .before .before .before .before .before .before .before .before .before .before .before .before .args .table .now) (c .before .before .before .before .before .before .before .before .before .before .before .before .before .before .before .before .before .args .base) in
-    let a = c .before .before .before .before .before .before .before .before .before .before .before .a .given .0 .0 in let b = c .before .before .before .before .before .before .before .b .given .0 .0 in let v = of64 (c .before .before .before .v .given .0 .0) in
-    some-word (c .before .before .before .before .before .before .before .before .before .before .before .before .before .before .before .before .before .args .op) _ (pos a ∷ (pos b ∷ (v ∷ []))) (parts (c .before .before .before .before .before .before .before .before .before .before .before .before .before .before .before .before .before .args .op) a b 0 (c .before .bits .result)) (first-got look register register (immediate ∷ []) (drop (c .before .before .before .before .before .before .before .before .before .before .before .before .before .before .before .before .before .args .at) s) (pos a) (drop (c .before .before .before .before .before .before .before .before .before .before .before .a .given .0 .1 .0) s) (some (pos b ∷ (v ∷ []))) (register-any look (lookIn [] [] 0) _ _ (c .before .before .before .before .before .before .before .before .before .before .before .before .before .register-comma .ensures .0 ∙ ap (regSeen s) (c .before .before .before .before .before .before .before .before .before .before .before .a .given .1)))
-    (first-got look register immediate [] (drop (c .before .before .before .before .before .before .before .before .before .before .before .a .given .0 .1 .0) s) (pos b) (drop (c .before .before .before .before .before .before .before .b .given .0 .1 .0) s) (some (v ∷ [])) (register-any look (lookIn [] [] 0) _ _ (c .before .before .before .before .before .before .before .before .before .register-comma2 .ensures .0 ∙ ap (regSeen s) (c .before .before .before .before .before .before .before .b .given .1)))
-    (last-some look immediate (drop (c .before .before .before .before .before .before .before .b .given .0 .1 .0) s) v _ (c .before .before .before .before .before .number-last .ensures ∙ ap (readTo s) (c .before .before .before .v .given .1))))) (parts-two (c .before .before .before .before .before .before .before .before .before .before .before .before .before .before .before .before .before .args .op) a b v (c .before .bits .result) (c .before .before .before .before .before .before .before .before .before .before .before .before .before .before .before .before .before .pre) (c .before .bits .ensures)) ∙ c .word .ensures
+returns-4 c =
+    let args =
+    c .before .before .before .before .before .before .before .before .before .before .before .before .before .before .before .before .before .args in
+    let s = args .s .now in
+    let look = lookIn (args .text .now) (args .table .now) (args .base) in
+    let a = c .before .before .before .before .before .before .before .before .before .before .before .a .given .0 .0 in
+    let b = c .before .before .before .before .before .before .before .b .given .0 .0 in
+    let v = of64 (c .before .before .before .v .given .0 .0) in
+    some-word (args .op) _ (pos a ∷ (pos b ∷ (v ∷ []))) (parts (args .op) a b 0 (c .before .bits .result))
+    (first-got look register register (immediate ∷ []) (drop (args .at) s) (pos a)
+    (drop (c .before .before .before .before .before .before .before .before .before .before .before .a .given .0 .1 .0) s) (some (pos b ∷ (v ∷ [])))
+    (register-any look (lookIn [] [] 0) _ _
+    (c .before .before .before .before .before .before .before .before .before .before .before .before .before .register-comma .ensures .0
+    ∙ ap (regSeen s) (c .before .before .before .before .before .before .before .before .before .before .before .a .given .1)))
+    (first-got look register immediate []
+    (drop (c .before .before .before .before .before .before .before .before .before .before .before .a .given .0 .1 .0) s) (pos b)
+    (drop (c .before .before .before .before .before .before .before .b .given .0 .1 .0) s) (some (v ∷ []))
+    (register-any look (lookIn [] [] 0) _ _
+    (c .before .before .before .before .before .before .before .before .before .register-comma2 .ensures .0
+    ∙ ap (regSeen s) (c .before .before .before .before .before .before .before .b .given .1)))
+    (last-some look immediate (drop (c .before .before .before .before .before .before .before .b .given .0 .1 .0) s) v _
+    (c .before .before .before .before .before .number-last .ensures ∙ ap (readTo s) (c .before .before .before .v .given .1)))))
+    (parts-two (args .op) a b v (c .before .bits .result)
+    (c .before .before .before .before .before .before .before .before .before .before .before .before .before .before .before .before .before .pre)
+    (c .before .bits .ensures))
+    ∙ c .word .ensures
 
 pub two-and-number-spec : {M : Type 1} → statement M
 two-and-number-spec =

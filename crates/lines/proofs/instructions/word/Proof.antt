@@ -6,27 +6,23 @@ use borrow.Author.Needs.{needs}
 use Rattle.lines.proofs.instructions.word.Statement.{statement}
 use Rattle.lines.proofs.instructions.word.Tie as tie
 
--- src/instructions.rt:42:11
 encode-parts-requires : tie.Need-encode-parts-requires
 encode-parts-requires c κs = search needs
 
--- src/instructions.rt:43:23
 enum-known-w : tie.Need-enum-known-w
 enum-known-w c = search needs
 
--- src/instructions.rt:43:29
 wide-requires : tie.Need-wide-requires
 wide-requires c κs = search needs
 
--- src/instructions.rt:44:32
 enum-told : tie.Need-enum-told
 enum-told c = search needs
 
--- src/instructions.rt:39:1
 returns : tie.Need-returns
-returns c = ap (λ (x : Encoded). sayingOf (wordMade x)) (sym (c .before .before .before .before .encode-parts .ensures) ∙ c .before .before .w .given .1) ∙ word-is (c .before .before .w .given .0 .0) (c .wide .result) (c .wide .ensures .0) (c .wide .ensures .1)
+returns c =
+    ap (λ (x : Encoded). sayingOf (wordMade x)) (sym (c .before .before .before .before .encode-parts .ensures) ∙ c .before .before .w .given .1)
+    ∙ word-is (c .before .before .w .given .0 .0) (c .wide .result) (c .wide .ensures .0) (c .wide .ensures .1)
 
--- src/instructions.rt:39:1
 returns-2 : tie.Need-returns-2
 returns-2 c = ap (λ (x : Encoded). sayingOf (wordMade x)) (sym (c .before .before .encode-parts .ensures) ∙ c .enum-told .given .1)
 

@@ -22,7 +22,9 @@ negated-requires c κs = search needs
 
 put-digits-requires-2 : tie.Need-put-digits-requires-2
 put-digits-requires-2 c κs =
-    let room = rw (negative (c .before .before .before .before .before .before .before .before .args .n) (omega arith), ← c .negated .ensures) at (c .before .before .before .before .before .before .before .before .pre) in
+    let room =
+    rw (negative (c .before .before .before .before .before .before .before .before .args .n) (omega arith), ← c .negated .ensures) at
+    (c .before .before .before .before .before .before .before .before .pre) in
     omega arith
 
 same-length-2 : tie.Need-same-length-2

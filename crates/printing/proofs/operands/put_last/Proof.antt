@@ -16,7 +16,11 @@ same-length : tie.Need-same-length
 same-length c = search needs
 
 returns : tie.Need-returns
-returns c = both (both (c .before .before .before .before .before .before .before .before .before .before .put-byte .ensures) (c .before .before .before .before .before .before .put-byte2 .ensures)) (c .before .before .put-signed .ensures)
+returns c =
+    both
+    (both (c .before .before .before .before .before .before .before .before .before .before .put-byte .ensures)
+    (c .before .before .before .before .before .before .put-byte2 .ensures))
+    (c .before .before .put-signed .ensures)
 
 pub put-last-spec : {M : Type 1} → statement M
 put-last-spec =

@@ -57,7 +57,8 @@ same-length c = search needs
 returns : tie.Need-returns
 returns c =
     let a = c .before .before .before .before .before .before .before .before .before .before .before .args in
-    rw (three-registers (a .f) (a .p) (c .before .before .before .before .before .before .before .before .enum-told .given .1)) (both (c .before .before .before .before .before .before .put-two .ensures) (c .before .before .put-next .ensures))
+    rw (three-registers (a .f) (a .p) (c .before .before .before .before .before .before .before .before .enum-told .given .1))
+    (both (c .before .before .before .before .before .before .put-two .ensures) (c .before .before .put-next .ensures))
 
 same-length-2 : tie.Need-same-length-2
 same-length-2 c = search needs
@@ -65,7 +66,8 @@ same-length-2 c = search needs
 returns-2 : tie.Need-returns-2
 returns-2 c =
     let a = c .before .before .before .before .before .before .before .before .before .before .args in
-    rw (two-and-number (a .f) (a .p) (c .before .before .before .before .before .before .before .before .match .keys2)) (both (c .before .before .before .before .before .before .put-two2 .ensures) (c .before .before .put-last .ensures))
+    rw (two-and-number (a .f) (a .p) (c .before .before .before .before .before .before .before .before .match .keys2))
+    (both (c .before .before .before .before .before .before .put-two2 .ensures) (c .before .before .put-last .ensures))
 
 same-length-3 : tie.Need-same-length-3
 same-length-3 c = search needs
@@ -73,7 +75,8 @@ same-length-3 c = search needs
 returns-3 : tie.Need-returns-3
 returns-3 c =
     let a = c .before .before .before .before .before .before .before .before .before .before .before .args in
-    rw (one-and-number (a .f) (a .p) (c .before .before .before .before .before .before .before .before .enum-told2 .given .1)) (both (c .before .before .before .before .before .before .put-first .ensures) (c .before .before .put-last2 .ensures))
+    rw (one-and-number (a .f) (a .p) (c .before .before .before .before .before .before .before .before .enum-told2 .given .1))
+    (both (c .before .before .before .before .before .before .put-first .ensures) (c .before .before .put-last2 .ensures))
 
 returns-4 : tie.Need-returns-4
 returns-4 c = rw (c .enum-told3 .given .1) (no-byte _ _)

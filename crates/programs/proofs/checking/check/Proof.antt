@@ -16,69 +16,72 @@ Inv-loop text table second at₀ before₀ own₀ at before own =
 abbrev μ-loop : tie.MeasureT-loop
 μ-loop text table second at₀ before₀ own₀ at before own = length text - at
 
--- src/checking.rt:45:5
 loop-holds : tie.Need-loop-holds Inv-loop μ-loop
 loop-holds c = (omega arith, omega arith, omega arith, refl)
 
--- src/checking.rt:47:13
 returns : tie.Need-returns Inv-loop μ-loop
-returns c = let a = c .before .before .before .before .args in let l = c .before .loop in sym (l .inv .3 ∙ check-end (a .text .now) (a .table .now) (a .second) (l .before + 1) (l .own) (a .text .now) (l .at) (c .if1 .taken))
+returns c =
+    let a = c .before .before .before .before .args in
+    let l = c .before .loop in
+    sym (l .inv .3 ∙ check-end (a .text .now) (a .table .now) (a .second) (l .before + 1) (l .own) (a .text .now) (l .at) (c .if1 .taken))
 
--- src/checking.rt:49:13
 span-at-requires : tie.Need-span-at-requires Inv-loop μ-loop
 span-at-requires c κs = c .if1 .left
 
--- src/checking.rt:51:21
 add-again : tie.Need-add-again Inv-loop μ-loop
 add-again c = let i = c .before .before .loop .inv in omega (arith, c .before .if1 .left)
 
--- src/checking.rt:52:56
 sub-one-line : tie.Need-sub-one-line Inv-loop μ-loop
 sub-one-line c = c .span-at .ensures .from
 
--- src/checking.rt:52:56
 part-one-line-start : tie.Need-part-one-line-start Inv-loop μ-loop
 part-one-line-start c = c .span-at .ensures .from
 
--- src/checking.rt:52:56
 part-one-line-end : tie.Need-part-one-line-end Inv-loop μ-loop
 part-one-line-end c = let a = c .span-at .ensures .stops in let b = c .span-at .ensures .within in omega arith
 
--- src/checking.rt:52:27
 one-line-requires : tie.Need-one-line-requires Inv-loop μ-loop
 one-line-requires c κs = let i = c .before .before .before .loop .inv in omega (arith, c .before .before .if1 .left)
 
--- src/checking.rt:52:22
 enum-known-o : tie.Need-enum-known-o Inv-loop μ-loop
 enum-known-o c = search needs
 
--- src/checking.rt:53:33
 enum-told : tie.Need-enum-told Inv-loop μ-loop
 enum-told c = search needs
 
--- src/checking.rt:53:33
 add-t18 : tie.Need-add-t18 Inv-loop μ-loop
 add-t18 c = let i = c .before .before .before .before .before .before .loop .inv in omega (arith, c .before .before .before .before .before .if1 .left)
 
--- src/checking.rt:53:13
 returns-2 : tie.Need-returns-2 Inv-loop μ-loop
-returns-2 c = let a = c .before .before .before .before .before .before .before .before .before .args in let l = c .before .before .before .before .before .before .loop in sym (l .inv .3 ∙ check-bad (a .text .now) (a .table .now) (a .second) (l .before + 1) (l .own) _ refl _ _ _ (c .before .before .before .before .span-at .ensures .lines) (sym (c .before .before .one-line .ensures) ∙ c .enum-told .given .1))
+returns-2 c =
+    let a = c .before .before .before .before .before .before .before .before .before .args in
+    let l = c .before .before .before .before .before .before .loop in
+    sym
+    (l .inv .3
+    ∙ check-bad (a .text .now) (a .table .now) (a .second) (l .before + 1) (l .own) _ refl _ _ _
+    (c .before .before .before .before .span-at .ensures .lines) (sym (c .before .before .one-line .ensures) ∙ c .enum-told .given .1))
 
--- src/checking.rt:56:9
 add-before : tie.Need-add-before Inv-loop μ-loop
 add-before c = let i = c .before .before .before .before .before .before .before .loop .inv in omega (arith, c .before .before .before .before .before .before .if1 .left)
 
--- src/checking.rt:45:5
 loop-less : tie.Need-loop-less Inv-loop μ-loop
 loop-less c = let a = c .before .before .before .before .before .span-at .ensures .on in let b = c .before .before .before .before .before .span-at .ensures .within in omega arith
 
--- src/checking.rt:45:5
 loop-again : tie.Need-loop-again Inv-loop μ-loop
-loop-again c = let a = c .before .before .before .before .before .before .before .before .before .before .args in let l = c .before .before .before .before .before .before .before .loop in let on = c .before .before .before .before .before .span-at .ensures .on in
+loop-again c =
+    let a = c .before .before .before .before .before .before .before .before .before .before .args in
+    let l = c .before .before .before .before .before .before .before .loop in
+    let on = c .before .before .before .before .before .span-at .ensures .on in
     let e = sym (c .before .before .before .one-line .ensures) ∙ c .before .o .given .1 in
     let m = step-more (a .text .now) (a .table .now) _ _ (l .own) (c .before .o .given .0 .0) e in
-    let i = l .inv in
-    (c .before .before .before .before .before .span-at .ensures .within, omega arith, omega arith, l .inv .3 ∙ check-go (a .text .now) (a .table .now) (a .second) (l .before + 1) (l .own) _ refl _ _ _ _ (c .before .before .before .before .before .span-at .ensures .lines) e)
+    let i = l .inv in (
+      c .before .before .before .before .before .span-at .ensures .within,
+      omega arith,
+      omega arith,
+      l .inv .3
+          ∙ check-go (a .text .now) (a .table .now) (a .second) (l .before + 1) (l .own) _ refl _ _ _ _
+          (c .before .before .before .before .before .span-at .ensures .lines) e,
+    )
 
 pub check-spec : {M : Type 1} → statement M
 check-spec =

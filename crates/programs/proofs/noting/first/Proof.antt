@@ -4,11 +4,9 @@ use mathlib.Core.Path.{sym, ap}
 use Rattle.programs.proofs.noting.first.Statement.{statement}
 use Rattle.programs.proofs.noting.first.Tie as tie
 
--- src/noting.rt:41:1
 returns : tie.Need-returns
 returns c = sym (ap (λ (b : Bool). cond b (c .before .args .line) (c .before .args .second)) (eq-eqb _ _ (c .if1 .taken)))
 
--- src/noting.rt:41:1
 returns-2 : tie.Need-returns-2
 returns-2 c = sym (ap (λ (b : Bool). cond b (c .before .args .line) (c .before .args .second)) (ne-eqb _ _ (c .if1 .left)))
 

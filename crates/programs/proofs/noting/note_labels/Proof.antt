@@ -18,71 +18,101 @@ Inv-loop text table₀ at₀ before₀ own₀ count₀ second₀ table at before
 abbrev μ-loop : tie.MeasureT-loop
 μ-loop text table₀ at₀ before₀ own₀ count₀ second₀ table at before own count second = length text - at
 
--- src/noting.rt:91:5
 loop-holds : tie.Need-loop-holds Inv-loop μ-loop
 loop-holds c = (refl, omega arith, omega arith, omega arith, noting-none (c .before .before .args .text .now) (c .before .before .args .table .now) (c .before .before .pre))
 
--- src/noting.rt:93:13
 same-length : tie.Need-same-length Inv-loop μ-loop
 same-length c = c .before .loop .inv .0
 
--- src/noting.rt:93:13
 returns : tie.Need-returns Inv-loop μ-loop
-returns c = let l = c .before .loop in (noting-all (c .before .before .before .before .args .text .now) (l .table) (l .at) (l .before) (l .own) (l .count) (l .second) (l .inv .4) (c .if1 .taken), l .inv .0)
+returns c =
+    let l = c .before .loop in (
+      noting-all (c .before .before .before .before .args .text .now) (l .table) (l .at) (l .before) (l .own) (l .count) (l .second) (l .inv .4)
+          (c .if1 .taken),
+      l .inv .0,
+    )
 
--- src/noting.rt:95:13
 span-at-requires : tie.Need-span-at-requires Inv-loop μ-loop
 span-at-requires c κs = c .if1 .left
 
--- src/noting.rt:98:49
 sub-note-line : tie.Need-sub-note-line Inv-loop μ-loop
 sub-note-line c = c .before .span-at .ensures .from
 
--- src/noting.rt:98:49
 part-note-line-start : tie.Need-part-note-line-start Inv-loop μ-loop
 part-note-line-start c = c .before .span-at .ensures .from
 
--- src/noting.rt:98:49
 part-note-line-end : tie.Need-part-note-line-end Inv-loop μ-loop
 part-note-line-end c = let a = c .before .span-at .ensures .stops in let b = c .before .span-at .ensures .within in omega arith
 
--- src/noting.rt:98:70
 add-note-line : tie.Need-add-note-line Inv-loop μ-loop
 add-note-line c = let i = c .before .before .before .before .loop .inv in omega (arith, c .before .before .before .if1 .left)
 
--- src/noting.rt:98:26
 note-line-requires : tie.Need-note-line-requires Inv-loop μ-loop
-note-line-requires c κs = let i = c .before .before .before .before .loop .inv in let s = c .before .before .span-at .ensures in let b = s .within in let st = s .stops in let n = length-take (c .before .before .span-at .result .stop - c .before .before .before .before .loop .at) (drop (c .before .before .before .before .loop .at) (c .before .before .before .before .before .before .before .args .text .now)) in (omega (arith, c .before .before .before .if1 .left), omega arith)
+note-line-requires c κs =
+    let i = c .before .before .before .before .loop .inv in
+    let s = c .before .before .span-at .ensures in
+    let b = s .within in
+    let st = s .stops in
+    let n =
+    length-take (c .before .before .span-at .result .stop - c .before .before .before .before .loop .at)
+    (drop (c .before .before .before .before .loop .at) (c .before .before .before .before .before .before .before .args .text .now)) in
+    (omega (arith, c .before .before .before .if1 .left), omega arith)
 
--- src/noting.rt:98:21
 enum-known-u : tie.Need-enum-known-u Inv-loop μ-loop
 enum-known-u c = search needs
 
--- src/noting.rt:99:13
 enum-told : tie.Need-enum-told Inv-loop μ-loop
 enum-told c = search needs
 
--- src/noting.rt:99:13
 same-length-2 : tie.Need-same-length-2 Inv-loop μ-loop
-same-length-2 c = let a = c .before .before .before .before .before .before .before .before .before .before .before .before .args in let l = c .before .before .before .before .before .before .before .before .before .loop in kept-short (a .text .now) (l .table) (l .at) (l .before) _ (l .inv .4) (c .before .before .before .before .before .before .before .span-at .result) (c .before .before .before .before .before .before .before .span-at .ensures) _ (ap (λ (m : Met). after m (c .before .before .before .before .note-line .last .1 .0)) (sym (c .enum-told .given .1)) ∙ c .before .before .before .before .note-line .ensures) .1 ∙ l .inv .0
+same-length-2 c =
+    let a = c .before .before .before .before .before .before .before .before .before .before .before .before .args in
+    let l = c .before .before .before .before .before .before .before .before .before .loop in
+    kept-short (a .text .now) (l .table) (l .at) (l .before) _ (l .inv .4)
+    (c .before .before .before .before .before .before .before .span-at .result)
+    (c .before .before .before .before .before .before .before .span-at .ensures) _
+    (ap (λ (m : Met). after m (c .before .before .before .before .note-line .last .1 .0)) (sym (c .enum-told .given .1)) ∙ c .before .before .before .before .note-line .ensures) .1
+    ∙ l .inv .0
 
--- src/noting.rt:99:13
 returns-2 : tie.Need-returns-2 Inv-loop μ-loop
-returns-2 c = let a = c .before .before .before .before .before .before .before .before .before .before .before .before .args in let l = c .before .before .before .before .before .before .before .before .before .loop in let k = kept-short (a .text .now) (l .table) (l .at) (l .before) _ (l .inv .4) (c .before .before .before .before .before .before .before .span-at .result) (c .before .before .before .before .before .before .before .span-at .ensures) _ (ap (λ (m : Met). after m (c .before .before .before .before .note-line .last .1 .0)) (sym (c .enum-told .given .1)) ∙ c .before .before .before .before .note-line .ensures) in (k .0, k .1 ∙ l .inv .0)
+returns-2 c =
+    let a = c .before .before .before .before .before .before .before .before .before .before .before .before .args in
+    let l = c .before .before .before .before .before .before .before .before .before .loop in
+    let k =
+    kept-short (a .text .now) (l .table) (l .at) (l .before) _ (l .inv .4)
+    (c .before .before .before .before .before .before .before .span-at .result)
+    (c .before .before .before .before .before .before .before .span-at .ensures) _
+    (ap (λ (m : Met). after m (c .before .before .before .before .note-line .last .1 .0)) (sym (c .enum-told .given .1))
+    ∙ c .before .before .before .before .note-line .ensures) in
+    (k .0, k .1 ∙ l .inv .0)
 
--- src/noting.rt:104:9
 add-before : tie.Need-add-before Inv-loop μ-loop
-add-before c = let i = c .before .before .before .before .before .before .before .before .before .before .loop .inv in omega (arith, c .before .before .before .before .before .before .before .before .before .if1 .left)
+add-before c =
+    let i = c .before .before .before .before .before .before .before .before .before .before .loop .inv in
+    omega (arith, c .before .before .before .before .before .before .before .before .before .if1 .left)
 
--- src/noting.rt:91:5
 loop-less : tie.Need-loop-less Inv-loop μ-loop
-loop-less c = let a = c .before .before .before .before .before .before .before .before .span-at .ensures .on in let b = c .before .before .before .before .before .before .before .before .span-at .ensures .within in omega arith
+loop-less c =
+    let a = c .before .before .before .before .before .before .before .before .span-at .ensures .on in
+    let b = c .before .before .before .before .before .before .before .before .span-at .ensures .within in omega arith
 
--- src/noting.rt:91:5
 loop-again : tie.Need-loop-again Inv-loop μ-loop
-loop-again c = let a = c .before .before .before .before .before .before .before .before .before .before .before .before .before .args in let l = c .before .before .before .before .before .before .before .before .before .before .loop in let k = kept-go (a .text .now) (l .table) (l .at) (l .before) _ (l .inv .4) (c .before .before .before .before .before .before .before .before .span-at .result) (c .before .before .before .before .before .before .before .before .span-at .ensures) _ _ (ap (λ (m : Met). after m (c .before .before .before .before .before .note-line .last .1 .0)) (sym (c .before .u .given .1)) ∙ c .before .before .before .before .before .note-line .ensures) in
-    let on = c .before .before .before .before .before .before .before .before .span-at .ensures .on in
-    (k .1 ∙ l .inv .0, c .before .before .before .before .before .before .before .before .span-at .ensures .within, omega (arith, l .inv .2), omega (arith, l .inv .3, k .0 .1), k .0 .0)
+loop-again c =
+    let a = c .before .before .before .before .before .before .before .before .before .before .before .before .before .args in
+    let l = c .before .before .before .before .before .before .before .before .before .before .loop in
+    let k =
+    kept-go (a .text .now) (l .table) (l .at) (l .before) _ (l .inv .4)
+    (c .before .before .before .before .before .before .before .before .span-at .result)
+    (c .before .before .before .before .before .before .before .before .span-at .ensures) _ _
+    (ap (λ (m : Met). after m (c .before .before .before .before .before .note-line .last .1 .0)) (sym (c .before .u .given .1))
+    ∙ c .before .before .before .before .before .note-line .ensures) in
+    let on = c .before .before .before .before .before .before .before .before .span-at .ensures .on in (
+      k .1 ∙ l .inv .0,
+      c .before .before .before .before .before .before .before .before .span-at .ensures .within,
+      omega (arith, l .inv .2),
+      omega (arith, l .inv .3, k .0 .1),
+      k .0 .0,
+    )
 
 pub note-labels-spec : {M : Type 1} → statement M
 note-labels-spec =

@@ -14,77 +14,85 @@ use borrow.Author.Needs.{needs}
 use Rattle.programs.proofs.noting.note_line.Statement.{statement}
 use Rattle.programs.proofs.noting.note_line.Tie as tie
 
--- src/noting.rt:86:8
 is-plain-requires : tie.Need-is-plain-requires
 is-plain-requires c κs = search needs
 
--- src/noting.rt:87:24
 one-more-requires : tie.Need-one-more-requires
 one-more-requires c κs = search needs
 
--- src/noting.rt:87:9
 returns : tie.Need-returns
-returns c = let a = c .before .before .before .before .before .before .args in ap (λ (u : Tally). after (Met.Go u) (a .table .now)) (c .one-more .ensures) ∙ plain-after (a .text .now) (a .table .now) (a .s .now) (a .at) (a .line) (a .t) (sym (c .before .before .is-plain .ensures) ∙ c .before .if1 .taken)
+returns c =
+    let a = c .before .before .before .before .before .before .args in
+    ap (λ (u : Tally). after (Met.Go u) (a .table .now)) (c .one-more .ensures)
+    ∙ plain-after (a .text .now) (a .table .now) (a .s .now) (a .at) (a .line) (a .t)
+    (sym (c .before .before .is-plain .ensures) ∙ c .before .if1 .taken)
 
--- src/noting.rt:89:11
 start-of-requires : tie.Need-start-of-requires
 start-of-requires c κs = search needs
 
--- src/noting.rt:90:25
 enum-told : tie.Need-enum-told
 enum-told c = search needs
 
--- src/noting.rt:91:22
 enum-known-p : tie.Need-enum-known-p
 enum-known-p c = search needs
 
--- src/noting.rt:91:52
 add-note-label : tie.Need-add-note-label
-add-note-label c = let a = c .before .before .before .before .before .before .before .before .before .before .args in let i : c .before .before .p .given .0 .0 < length (a .s .now) = class-inside isLetter (a .s .now) _ refl (began (a .s .now) (c .before .before .before .before .start-of .result) _ (c .before .before .before .before .start-of .ensures) (c .before .before .p .given .1) .1 .1 .0) in omega (arith, c .before .before .before .before .before .before .before .before .before .before .pre)
+add-note-label c =
+    let a = c .before .before .before .before .before .before .before .before .before .before .args in
+    let i : c .before .before .p .given .0 .0 < length (a .s .now) =
+    class-inside isLetter (a .s .now) _ refl
+    (began (a .s .now) (c .before .before .before .before .start-of .result) _ (c .before .before .before .before .start-of .ensures)
+    (c .before .before .p .given .1) .1 .1 .0) in
+    omega (arith, c .before .before .before .before .before .before .before .before .before .before .pre)
 
--- src/noting.rt:91:28
 note-label-requires : tie.Need-note-label-requires
 note-label-requires c κs = search needs
 
--- src/noting.rt:92:38
 enum-told-2 : tie.Need-enum-told-2
 enum-told-2 c = search needs
 
--- src/noting.rt:92:38
 one-more-requires-2 : tie.Need-one-more-requires-2
 one-more-requires-2 c κs = search needs
 
--- src/noting.rt:93:33
 enum-told-3 : tie.Need-enum-told-3
 enum-told-3 c = search needs
 
--- src/noting.rt:93:33
 one-more-requires-3 : tie.Need-one-more-requires-3
 one-more-requires-3 c κs = search needs
 
--- src/noting.rt:82:1
 returns-2 : tie.Need-returns-2
 unfolding lineAfter
-returns-2 c = let a = c .before .before .before .before .before .before .before .before .args in ap (λ (x : Start). startAfter (a .text .now) (a .table .now) x (a .at) (a .line) (a .t)) (sym (sym (c .before .before .start-of .ensures) ∙ c .enum-told .given .1))
+returns-2 c =
+    let a = c .before .before .before .before .before .before .before .before .args in
+    ap (λ (x : Start). startAfter (a .text .now) (a .table .now) x (a .at) (a .line) (a .t))
+    (sym (sym (c .before .before .start-of .ensures) ∙ c .enum-told .given .1))
 
--- src/noting.rt:82:1
 same-length : tie.Need-same-length
 same-length c = search needs
 
--- src/noting.rt:82:1
 returns-3 : tie.Need-returns-3
 unfolding lineAfter
-returns-3 c = let a = c .before .before .before .before .before .before .before .before .before .before .before .before .before .args in c .before .before .note-label .ensures ∙ ap (λ (x : Start). startAfter (a .text .now) (a .table .now) x (a .at) (a .line) (a .t)) (sym (sym (c .before .before .before .before .before .before .before .start-of .ensures) ∙ c .before .before .before .before .before .p .given .1))
+returns-3 c =
+    let a = c .before .before .before .before .before .before .before .before .before .before .before .before .before .args in
+    c .before .before .note-label .ensures
+    ∙ ap (λ (x : Start). startAfter (a .text .now) (a .table .now) x (a .at) (a .line) (a .t))
+    (sym (sym (c .before .before .before .before .before .before .before .start-of .ensures) ∙ c .before .before .before .before .before .p .given .1))
 
--- src/noting.rt:82:1
 returns-4 : tie.Need-returns-4
 unfolding lineAfter
-returns-4 c = let a = c .before .before .before .before .before .before .before .before .before .args in ap (λ (u : Tally). after (Met.Go u) (a .table .now)) (c .one-more2 .ensures) ∙ ap (λ (x : Start). startAfter (a .text .now) (a .table .now) x (a .at) (a .line) (a .t)) (sym (sym (c .before .before .before .start-of .ensures) ∙ c .before .enum-told2 .given .1))
+returns-4 c =
+    let a = c .before .before .before .before .before .before .before .before .before .args in
+    ap (λ (u : Tally). after (Met.Go u) (a .table .now)) (c .one-more2 .ensures)
+    ∙ ap (λ (x : Start). startAfter (a .text .now) (a .table .now) x (a .at) (a .line) (a .t))
+    (sym (sym (c .before .before .before .start-of .ensures) ∙ c .before .enum-told2 .given .1))
 
--- src/noting.rt:82:1
 returns-5 : tie.Need-returns-5
 unfolding lineAfter
-returns-5 c = let a = c .before .before .before .before .before .before .before .before .before .args in ap (λ (u : Tally). after (Met.Go u) (a .table .now)) (c .one-more3 .ensures) ∙ ap (λ (x : Start). startAfter (a .text .now) (a .table .now) x (a .at) (a .line) (a .t)) (sym (sym (c .before .before .before .start-of .ensures) ∙ c .before .enum-told3 .given .1))
+returns-5 c =
+    let a = c .before .before .before .before .before .before .before .before .before .args in
+    ap (λ (u : Tally). after (Met.Go u) (a .table .now)) (c .one-more3 .ensures)
+    ∙ ap (λ (x : Start). startAfter (a .text .now) (a .table .now) x (a .at) (a .line) (a .t))
+    (sym (sym (c .before .before .before .start-of .ensures) ∙ c .before .enum-told3 .given .1))
 
 pub note-line-spec : {M : Type 1} → statement M
 note-line-spec =

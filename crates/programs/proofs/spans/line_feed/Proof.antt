@@ -15,45 +15,47 @@ Inv-loop s at n₀ n = (n ≤ length s) × Going isText s at n
 abbrev μ-loop : tie.MeasureT-loop
 μ-loop s at n₀ n = length s - n
 
--- src/spans.rt:55:5
 loop-holds : tie.Need-loop-holds Inv-loop μ-loop
 loop-holds c = (c .before .pre, starts isText _ _)
 
--- src/spans.rt:56:12
 sub-if1 : tie.Need-sub-if1 Inv-loop μ-loop
 sub-if1 c = omega (arith, c .loop .inv .0)
 
--- src/spans.rt:57:13
 next-feed-requires : tie.Need-next-feed-requires Inv-loop μ-loop
 next-feed-requires c κs = c .before .loop .inv .0
 
--- src/spans.rt:57:13
 returns : tie.Need-returns Inv-loop μ-loop
-returns c = feed-rest (c .before .before .before .before .args .s .now) (c .before .before .before .before .args .at) (c .before .before .loop .n) (c .before .before .loop .inv .1) _ (c .next-feed .ensures)
+returns c =
+    let args = c .before .before .before .before .args in
+    let loop = c .before .before .loop in feed-rest (args .s .now) (args .at) (loop .n) (loop .inv .1) _ (c .next-feed .ensures)
 
--- src/spans.rt:59:13
 eight-are-text-requires : tie.Need-eight-are-text-requires Inv-loop μ-loop
 eight-are-text-requires c κs = omega (arith, c .before .loop .inv .0, c .if1 .left)
 
--- src/spans.rt:60:13
 next-feed-requires-2 : tie.Need-next-feed-requires-2 Inv-loop μ-loop
 next-feed-requires-2 c κs = c .before .before .before .loop .inv .0
 
--- src/spans.rt:60:13
 returns-2 : tie.Need-returns-2 Inv-loop μ-loop
-returns-2 c = feed-rest (c .before .before .before .before .before .before .args .s .now) (c .before .before .before .before .before .before .args .at) (c .before .before .before .before .loop .n) (c .before .before .before .before .loop .inv .1) _ (c .next-feed2 .ensures)
+returns-2 c =
+    let args = c .before .before .before .before .before .before .args in
+    let loop = c .before .before .before .before .loop in feed-rest (args .s .now) (args .at) (loop .n) (loop .inv .1) _ (c .next-feed2 .ensures)
 
--- src/spans.rt:62:9
 add-n : tie.Need-add-n Inv-loop μ-loop
 add-n c = omega (arith, c .before .before .before .loop .inv .0, c .before .before .if1 .left)
 
--- src/spans.rt:55:5
 loop-less : tie.Need-loop-less Inv-loop μ-loop
 loop-less c = omega (arith, c .before .before .before .loop .inv .0, c .before .before .if1 .left)
 
--- src/spans.rt:55:5
 loop-again : tie.Need-loop-again Inv-loop μ-loop
-loop-again c = let i = c .before .before .before .loop .inv in let l = c .before .before .if1 .left in (omega (arith, i .0), feed-far (c .before .before .before .before .before .args .s .now) (c .before .before .before .before .before .args .at) (c .before .before .before .loop .n) (i .1) 8 (omega (arith, i .0)) (sym (c .before .eight-are-text .ensures) ∙ not-false _ (c .if2 .left)))
+loop-again c =
+    let loop = c .before .before .before .loop in
+    let args = c .before .before .before .before .before .args in
+    let i = loop .inv in
+    let l = c .before .before .if1 .left in (
+      omega (arith, i .0),
+      feed-far (args .s .now) (args .at) (loop .n) (i .1) 8 (omega (arith, i .0))
+          (sym (c .before .eight-are-text .ensures) ∙ not-false _ (c .if2 .left)),
+    )
 
 pub line-feed-spec : {M : Type 1} → statement M
 line-feed-spec =

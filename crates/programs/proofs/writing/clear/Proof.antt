@@ -14,37 +14,40 @@ Inv-loop table₀ i₀ table i = (length table ≡ length table₀) × (i ≤ le
 abbrev μ-loop : tie.MeasureT-loop
 μ-loop table₀ i₀ table i = length table₀ - i
 
--- src/writing.rt:46:5
 loop-holds : tie.Need-loop-holds Inv-loop μ-loop
 loop-holds c = (refl, omega arith, refl)
 
--- src/writing.rt:47:9
 mul-table : tie.Need-mul-table Inv-loop μ-loop
 mul-table c = omega (arith, c .before .loop .inv .0)
 
--- src/writing.rt:47:9
 slice-write-table : tie.Need-slice-write-table Inv-loop μ-loop
 slice-write-table c = omega (arith, c .before .loop .inv .0)
 
--- src/writing.rt:48:9
 add-i : tie.Need-add-i Inv-loop μ-loop
 add-i c = omega (arith, c .before .loop .inv .0)
 
--- src/writing.rt:46:5
 loop-less : tie.Need-loop-less Inv-loop μ-loop
 loop-less c = omega (arith, c .before .loop .inv .0)
 
--- src/writing.rt:46:5
 loop-again : tie.Need-loop-again Inv-loop μ-loop
-loop-again c = let l = c .before .loop in (length-set (l .table) (l .i) 0 ∙ l .inv .0, omega (arith, l .inv .0), ap (λ (n : ℕ). take n (set (l .table) (l .i) 0)) (add-one (l .i)) ∙ take-suc-set (l .table) (l .i) 0 (omega (arith, l .inv .0)) ∙ ap (_++ (0 ∷ [])) (l .inv .2) ∙ replicate-append-replicate (l .i) 1 0)
+loop-again c =
+    let l = c .before .loop in (
+      length-set (l .table) (l .i) 0 ∙ l .inv .0,
+      omega (arith, l .inv .0),
+      ap (λ (n : ℕ). take n (set (l .table) (l .i) 0)) (add-one (l .i))
+          ∙ take-suc-set (l .table) (l .i) 0 (omega (arith, l .inv .0))
+          ∙ ap (_++ (0 ∷ [])) (l .inv .2)
+          ∙ replicate-append-replicate (l .i) 1 0,
+    )
 
--- src/writing.rt:42:1
 same-length : tie.Need-same-length Inv-loop μ-loop
 same-length c = c .before .loop .inv .0
 
--- src/writing.rt:42:1
 returns : tie.Need-returns Inv-loop μ-loop
-returns c = let l = c .before .loop in let e : l .i ≡ length (c .before .before .args .table .now) = omega (arith, l .inv .0, l .inv .1) in sym (take-all (l .i) (l .table) (omega (arith, l .inv .0))) ∙ l .inv .2 ∙ ap (λ (n : ℕ). replicate n 0) e
+returns c =
+    let l = c .before .loop in
+    let e : l .i ≡ length (c .before .before .args .table .now) = omega (arith, l .inv .0, l .inv .1) in
+    sym (take-all (l .i) (l .table) (omega (arith, l .inv .0))) ∙ l .inv .2 ∙ ap (λ (n : ℕ). replicate n 0) e
 
 pub clear-spec : {M : Type 1} → statement M
 clear-spec =

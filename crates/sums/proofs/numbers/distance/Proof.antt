@@ -7,39 +7,30 @@ use borrow.Author.Needs.{needs}
 use Rattle.sums.proofs.numbers.distance.Statement.{statement}
 use Rattle.sums.proofs.numbers.distance.Tie as tie
 
--- src/numbers.rt:48:33
 mul-raised : tie.Need-mul-raised
 mul-raised c = search needs
 
--- src/numbers.rt:48:13
 raised-requires : tie.Need-raised-requires
 raised-requires c κs = search needs
 
--- src/numbers.rt:48:13
 returns : tie.Need-returns
 returns c = ap checked (dif-eq _ _ _ _ (omega arith)) ∙ c .raised .ensures
 
--- src/numbers.rt:50:9
 returns-2 : tie.Need-returns-2
 returns-2 c = dif-high _ _ (omega arith)
 
--- src/numbers.rt:52:13
 sub-k : tie.Need-sub-k
 sub-k c = search needs
 
--- src/numbers.rt:54:30
 mul-lowered : tie.Need-mul-lowered
 mul-lowered c = search needs
 
--- src/numbers.rt:54:9
 lowered-requires : tie.Need-lowered-requires
 lowered-requires c κs = search needs
 
--- src/numbers.rt:54:9
 returns-3 : tie.Need-returns-3
 returns-3 c = ap checked (dif-eq _ _ _ _ (omega arith)) ∙ c .lowered .ensures
 
--- src/numbers.rt:42:1
 returns-4 : tie.Need-returns-4
 returns-4 c = dif-low _ _ (omega arith)
 

@@ -10,21 +10,25 @@ use borrow.Author.Needs.{needs}
 use Rattle.sums.proofs.numbers.joined.Statement.{statement}
 use Rattle.sums.proofs.numbers.joined.Tie as tie
 
--- src/numbers.rt:82:9
 plus-requires : tie.Need-plus-requires
 plus-requires c κs = search needs
 
--- src/numbers.rt:82:9
 returns : tie.Need-returns
-returns c = ap (λ (t : Bool). checked (join (cond t add sub) (of64 (c .before .before .args .v)) (of64 (c .before .before .args .w)))) (eq-eqb _ _ (c .before .if1 .taken)) ∙ ap checked (dif-add _ _ _ _) ∙ c .plus .ensures
+returns c =
+    let args = c .before .before .args in
+    ap (λ (t : Bool). checked (join (cond t add sub) (of64 (args .v)) (of64 (args .w)))) (eq-eqb _ _ (c .before .if1 .taken))
+    ∙ ap checked (dif-add _ _ _ _)
+    ∙ c .plus .ensures
 
--- src/numbers.rt:84:5
 minus-requires : tie.Need-minus-requires
 minus-requires c κs = search needs
 
--- src/numbers.rt:78:1
 returns-2 : tie.Need-returns-2
-returns-2 c = ap (λ (t : Bool). checked (join (cond t add sub) (of64 (c .before .before .args .v)) (of64 (c .before .before .args .w)))) (ne-eqb _ _ (c .before .if1 .left)) ∙ ap checked (dif-sub _ _ _ _ ∙ dif-eq _ _ _ _ (omega arith)) ∙ c .minus .ensures
+returns-2 c =
+    let args = c .before .before .args in
+    ap (λ (t : Bool). checked (join (cond t add sub) (of64 (args .v)) (of64 (args .w)))) (ne-eqb _ _ (c .before .if1 .left))
+    ∙ ap checked (dif-sub _ _ _ _ ∙ dif-eq _ _ _ _ (omega arith))
+    ∙ c .minus .ensures
 
 pub joined-spec : {M : Type 1} → statement M
 joined-spec = tie.close (tie.spec plus-requires returns minus-requires returns-2)

@@ -4,11 +4,9 @@ use Rattle.sums.proofs.Differences.{dif-fits, dif-low}
 use Rattle.sums.proofs.numbers.lowered.Statement.{statement}
 use Rattle.sums.proofs.numbers.lowered.Tie as tie
 
--- src/numbers.rt:27:9
 returns : tie.Need-returns
 returns c = dif-fits _ _ _ (omega arith) (omega arith)
 
--- src/numbers.rt:23:1
 returns-2 : tie.Need-returns-2
 returns-2 c = dif-low _ _ (omega arith)
 

@@ -7,23 +7,18 @@ use borrow.Author.Needs.{needs}
 use Rattle.sums.proofs.numbers.minus.Statement.{statement}
 use Rattle.sums.proofs.numbers.minus.Tie as tie
 
--- src/numbers.rt:72:9
 lowered-requires : tie.Need-lowered-requires
 lowered-requires c κs = search needs
 
--- src/numbers.rt:72:9
 returns : tie.Need-returns
 returns c = ap checked (dif-eq _ _ _ _ (omega arith)) ∙ c .lowered .ensures
 
--- src/numbers.rt:74:15
 sub-raised : tie.Need-sub-raised
 sub-raised c = search needs
 
--- src/numbers.rt:74:5
 raised-requires : tie.Need-raised-requires
 raised-requires c κs = search needs
 
--- src/numbers.rt:68:1
 returns-2 : tie.Need-returns-2
 returns-2 c = ap checked (dif-eq _ _ _ _ (omega arith)) ∙ c .raised .ensures
 

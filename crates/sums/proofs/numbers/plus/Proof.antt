@@ -7,23 +7,18 @@ use borrow.Author.Needs.{needs}
 use Rattle.sums.proofs.numbers.plus.Statement.{statement}
 use Rattle.sums.proofs.numbers.plus.Tie as tie
 
--- src/numbers.rt:63:9
 raised-requires : tie.Need-raised-requires
 raised-requires c κs = search needs
 
--- src/numbers.rt:63:9
 returns : tie.Need-returns
 returns c = ap checked (dif-eq _ _ _ _ (omega arith)) ∙ c .raised .ensures
 
--- src/numbers.rt:65:16
 sub-lowered : tie.Need-sub-lowered
 sub-lowered c = search needs
 
--- src/numbers.rt:65:5
 lowered-requires : tie.Need-lowered-requires
 lowered-requires c κs = search needs
 
--- src/numbers.rt:59:1
 returns-2 : tie.Need-returns-2
 returns-2 c = ap checked (dif-eq _ _ _ _ (omega arith)) ∙ c .lowered .ensures
 

@@ -6,19 +6,15 @@ use borrow.Author.Needs.{needs}
 use Rattle.sums.proofs.numbers.raised.Statement.{statement}
 use Rattle.sums.proofs.numbers.raised.Tie as tie
 
--- src/numbers.rt:17:13
 sub-if1 : tie.Need-sub-if1
 sub-if1 c = search needs
 
--- src/numbers.rt:18:25
 add-t5 : tie.Need-add-t5
 add-t5 c = search needs
 
--- src/numbers.rt:18:9
 returns : tie.Need-returns
 returns c = dif-fits _ _ _ refl (omega arith)
 
--- src/numbers.rt:14:1
 returns-2 : tie.Need-returns-2
 returns-2 c = dif-high _ _ (omega arith)
 
