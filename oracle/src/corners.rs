@@ -1,6 +1,7 @@
 //! Values at which something changes.
 
 use zkir_runtime::state::Held;
+use zkir_spec::Opcode;
 
 use crate::random::Random;
 
@@ -18,6 +19,20 @@ pub const LIMBS: [u64; 8] =
 pub const BOUNDS: [u8; 12] = [0, 1, 7, 8, 20, 24, 39, 40, 41, 62, 63, 64];
 
 pub const IMMEDIATES: [i32; 16] = [0, 1, -1, 2, -2, 3, 4, -4, 7, 8, 63, 64, 0x7fff, 65535, -65535, -65536];
+
+/// The loads and stores, each with the bytes that it takes.
+#[rustfmt::skip]
+pub const ACCESSES: [(Opcode, u64); 10] = [
+    (Opcode::Lb, 1), (Opcode::Lbu, 1), (Opcode::Lh, 2), (Opcode::Lhu, 2), (Opcode::Lw, 4), (Opcode::Ld, 8),
+    (Opcode::Sb, 1), (Opcode::Sh, 2), (Opcode::Sw, 4), (Opcode::Sd, 8),
+];
+
+/// For an access of so many bytes, a memory's length and the address: its last byte is the last that there is; is missing; the
+/// address is the length; the access ends at 2^64; there are fewer bytes than it takes; there are none.
+pub fn ends(size: u64) -> [(usize, u64); 6] {
+    let bytes = size as usize;
+    [(16, 16 - size), (15 + bytes, 16), (16, 16), (16, size.wrapping_neg()), (bytes - 1, 0), (0, 0)]
+}
 
 /// Whole corner values, and in deferred mode all pairs of corner limbs.
 pub fn operands(deferred: bool) -> Vec<Held> {

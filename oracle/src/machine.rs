@@ -105,9 +105,10 @@ impl<T: Counting> Machine<'_, T> {
     /// "pc not a multiple of 4" (6), then "pc + 4 beyond memory, in whole numbers" (7).
     #[inline]
     fn fetch(&self) -> Result<u32, Refusal> {
-        self.memory.read_u32(self.state.pc).map_err(|refused| match Refusal::from(refused) {
-            Refusal::Misaligned { address } => Refusal::PcMisaligned { pc: address },
-            Refusal::Beyond { address } => Refusal::PcBeyond { pc: address },
+        let pc = self.state.pc;
+        self.memory.read_u32(pc).map_err(|refused| match Refusal::from(refused) {
+            Refusal::Misaligned { .. } => Refusal::PcMisaligned { pc },
+            Refusal::Beyond { .. } => Refusal::PcBeyond { pc },
             other => other,
         })
     }

@@ -30,7 +30,7 @@ const USAGE: &str = "usage: oracle COMMAND
   interpreter [COUNT [ONE_IN [SEED]]] the same two with the interpreter written by hand
   words [COUNT [SEED]]    compares all 2^32 words, or COUNT random ones, and tests the laws of words
   functions [COUNT [SEED]] compares each function of numbers on corners and on COUNT drawn arguments
-  inside COUNT [SEED]     compares COUNT generated calls of what the host call does not reach
+  inside COUNT [SEED]     compares COUNT calls of what the host call does not reach, generated but for corners
   text COUNT [SEED]       compares the enumerated texts and COUNT generated calls of assembler and printer
   printed [COUNT [SEED]]  compares the prints of all 2^32 words, or of COUNT random ones, and what they assemble to
   vectors FILE            writes the fixed list of the oracle's answers
@@ -183,6 +183,7 @@ fn inside(count: u64, seed: u64) -> bool {
     let mut comparer = InsideComparer::new(subject);
     let mut random = Random::seeded(seed);
     let started = Instant::now();
+    inside::at_the_ends().iter().all(|call| comparer.compare(call));
     while comparer.compared < count && comparer.compare(&inside::generated(&mut random)) {}
     let (compared, seconds) = (comparer.compared, started.elapsed().as_secs_f64());
     println!("{compared} calls inside the library, seed {seed}, compared with {name} in {seconds:.1} s");

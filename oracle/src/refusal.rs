@@ -6,7 +6,7 @@ use zkir_runtime::error::RuntimeError;
 #[derive(Clone, Copy, Debug, PartialEq, Eq)]
 pub enum Refusal {
     DivisorZero { pc: u64 },
-    Beyond { address: u64 },
+    Beyond { missing: u64 },
     Misaligned { address: u64 },
     Opcode { word: u32 },
     Operands { word: u32 },
@@ -39,7 +39,8 @@ impl Refusal {
             | Refusal::PcMisaligned { pc }
             | Refusal::PcBeyond { pc }
             | Refusal::ListFull { pc } => pc,
-            Refusal::Beyond { address } | Refusal::Misaligned { address } => address,
+            Refusal::Beyond { missing } => missing,
+            Refusal::Misaligned { address } => address,
             Refusal::Opcode { word } | Refusal::Operands { word } => word as u64,
             Refusal::Malformed => 0,
             Refusal::BadLine { line } => line,
@@ -51,7 +52,7 @@ impl From<RuntimeError> for Refusal {
     fn from(error: RuntimeError) -> Self {
         match error {
             RuntimeError::DivisionByZero { pc } => Refusal::DivisorZero { pc },
-            RuntimeError::OutOfBounds { address } => Refusal::Beyond { address },
+            RuntimeError::OutOfBounds { address } => Refusal::Beyond { missing: address },
             RuntimeError::MisalignedAccess { address } => Refusal::Misaligned { address },
         }
     }

@@ -117,6 +117,7 @@ fn run_only() {
     let lw = |imm| encode(&Instruction::Lw { rd: R1, rs1: R0, imm }).unwrap();
     assert_eq!(run(&[lw(60)], 64).steps, 1);
     assert_eq!(refused(&[lw(64)], 64), (2, 64));
+    assert_eq!(refused(&[lw(60)], 62), (2, 62), "the first byte that is missing");
     assert_eq!(refused(&[lw(1)], 64), (3, 1));
 }
 

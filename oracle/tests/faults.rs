@@ -2,13 +2,16 @@
 
 use oracle::case::{After, Case};
 use oracle::compare::{Comparer, Difference};
+use oracle::corners::ACCESSES;
 use oracle::generate;
 use oracle::host::oracle_run;
 use oracle::layout::{number, put_number, record_at, write_answer};
 use oracle::random::Random;
 use oracle::subject::{Oracle, Subject};
 use oracle::sweep::{Share, LARGE, SMALL};
-use zkir_spec::encoding::{extract_imm_signed, extract_opcode, extract_rd, extract_rs1, extract_rs2};
+use zkir_spec::encoding::{
+    extract_imm_signed, extract_opcode, extract_rd, extract_rs1, extract_rs2, extract_stype_rs1,
+};
 use zkir_spec::Opcode;
 
 /// Runs step by step, and gives each step to the fault, which may answer in the oracle's place.
@@ -58,6 +61,18 @@ impl Step {
 
     fn whole(&self, register: u32) -> u64 {
         number(&self.call.state, record_at(register as usize) + 8)
+    }
+
+    /// Of a load or store whose rs1 is whole.
+    fn address(&self) -> u64 {
+        let stores = (Opcode::Sb as u32..=Opcode::Sd as u32).contains(&extract_opcode(self.word));
+        let rs1 = if stores { extract_stype_rs1(self.word) } else { extract_rs1(self.word) };
+        self.whole(rs1).wrapping_add(extract_imm_signed(self.word) as u64)
+    }
+
+    /// Refusal 2, naming another byte.
+    fn lacking(&self, byte: u64) -> Option<After> {
+        (self.right.code == 2).then(|| self.but(|after| put_number(&mut after.answer, 16, byte)))?
     }
 
     /// What the oracle leaves, with rd's number, bound or the pc changed.
@@ -219,6 +234,22 @@ fn range_before_alignment() {
             })
         })?
     });
+}
+
+#[test]
+fn another_byte_than_the_first_missing() {
+    caught("refusal 2 that names the address", |step| step.lacking(step.address()));
+    caught("refusal 2 that names the memory's length", |step| step.lacking(step.call.memory.len() as u64));
+    caught("refusal 2 that names the last byte", |step| {
+        let (_, size) = ACCESSES.into_iter().find(|&(opcode, _)| step.is(opcode))?;
+        step.lacking(step.address().wrapping_add(size - 1))
+    });
+    let name = "refusal 2 that is one too high at the memory's end";
+    let fault = Faulty(|step| {
+        let end = step.call.memory.len() as u64;
+        (step.address() == end).then(|| step.lacking(end + 1))?
+    });
+    small(name, &found(name, &fault), 64); // to cut the memory would hide it
 }
 
 #[test]

@@ -1,6 +1,9 @@
 //! What the host call does not reach: the generated calls meet everything, and wrong functions are found and shrunk.
 
-use oracle::inside::{generated, Call, Difference, Inside, InsideComparer, Lent, Limbs, Lists, OracleInside, What};
+use oracle::corners::ACCESSES;
+use oracle::inside::{
+    at_the_ends, generated, Call, Difference, Inside, InsideComparer, Lent, Limbs, Lists, OracleInside, What,
+};
 use oracle::layout::{number, put_number, record_at};
 use oracle::random::Random;
 
@@ -40,6 +43,19 @@ fn every_kind_of_call_is_made_on_lists_of_every_kind() {
     made(&|call| call.lists.values.len() != call.lists.pcs.len());
     made(&|call| call.lists.values.len() != call.lists.widths.len());
     made(&|call| call.lists.count > call.lists.values.len());
+}
+
+/// Refusal 2 names the first byte that is missing.
+#[test]
+fn accesses_at_the_ends_of_memory() {
+    for (calls, (opcode, size)) in at_the_ends().chunks(6).zip(ACCESSES.repeat(2)) {
+        let missing = [15 + size, 16, u64::MAX - size + 1, size - 1, 0].map(|byte| (2, byte));
+        let told = calls.iter().map(|call| {
+            let left = call.through(&OracleInside);
+            (left.code(), number(&left.answers[0], 16))
+        });
+        assert!(told.eq([(0, 0)].into_iter().chain(missing)), "{opcode:?}");
+    }
 }
 
 /// The oracle, but for what a fault does to a call of one kind.

@@ -39,7 +39,7 @@ extern "C" {
 /* The codes, with the particular of each; it is 0 at the others. */
 #define ZKIR_FUEL 0          /* the fuel is used up; of a step: the run goes on */
 #define ZKIR_DIVISOR_ZERO 1  /* pc */
-#define ZKIR_BEYOND 2        /* address, which with the access's size reaches beyond memory */
+#define ZKIR_BEYOND 2        /* missing: the first byte of the access that memory lacks */
 #define ZKIR_MISALIGNED 3    /* address, which is no multiple of the access's size */
 #define ZKIR_BAD_OPCODE 4    /* word, whose opcode is 0 or over 50 */
 #define ZKIR_UNUSED_BITS 5   /* word, with unused bits set or a shift amount over 63 */

@@ -136,7 +136,7 @@ pub fn run(state: &mut State, memory: &mut [u8], fuel: u64, mode: Mode) -> Answe
     let mut answer = [0; ANSWER_BYTES];
     raw::run(&mut state.bytes, memory, &mut answer, fuel, mode.into());
     let [code, steps, particular] = [0, 8, 16].map(|at| layout::number(&answer, at));
-    match Stop::of(code, particular) {
+    match Stop::of(code, particular, memory.len()) {
         Some(stop) => Answer { stop, steps },
         None => panic!("the archive answered code {code} with {particular}, which is no stop"),
     }

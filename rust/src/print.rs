@@ -60,8 +60,8 @@ pub struct BadWord {
 impl BadWord {
     /// The particular is the word: where it first stands, it is refused.
     fn of(words: &[u32], told: Told) -> Option<BadWord> {
-        let refusal = Refusal::of(told.code, told.particular)?;
         let place = words.iter().position(|&word| u64::from(word) == told.particular)?;
+        let refusal = Refusal::of_word(told.code, words[place])?;
         Some(BadWord { refusal, address: 4 * place as u64 })
     }
 }

@@ -70,8 +70,8 @@ impl Stepped {
         }
     }
 
-    fn of(code: u64, particular: u64) -> Option<Stepped> {
-        match Stop::of(code, particular)? {
+    fn of(code: u64, particular: u64, length: usize) -> Option<Stepped> {
+        match Stop::of(code, particular, length)? {
             Stop::Fuel => Some(Stepped::On),
             Stop::Ebreak => Some(Stepped::Ebreak),
             Stop::Ecall => Some(Stepped::Ecall),
@@ -119,7 +119,7 @@ impl fmt::Display for Stepped {
 pub fn step(state: &mut State, memory: &mut [u8], mode: Mode, checks: &mut Checks<'_>) -> Stepped {
     let mut lent = Lent::from(&*state);
     let answer = raw::step(&mut lent, memory, checks.room, checks.count, mode.into());
-    match (Stepped::of(answer.code, answer.particular), State::try_from(&lent)) {
+    match (Stepped::of(answer.code, answer.particular, memory.len()), State::try_from(&lent)) {
         (Some(stepped), Ok(after)) => {
             *state = after;
             checks.count = answer.count;

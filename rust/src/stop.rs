@@ -16,12 +16,12 @@ use std::fmt;
 /// ```
 #[derive(Clone, Copy, Debug, PartialEq, Eq, Hash)]
 #[non_exhaustive]
-#[allow(missing_docs)] // of the fields: each is the particular
+#[allow(missing_docs)] // of the fields: the first is the particular
 pub enum Refusal {
     /// The instruction at the pc divides by zero.
     DivisorZero { pc: u64 },
-    /// The address and the access's size reach beyond memory.
-    Beyond { address: u64 },
+    /// The access reaches beyond memory: the first byte that is missing, and how many bytes memory has.
+    Beyond { missing: u64, length: u64 },
     /// The address is not a multiple of the access's size.
     Misaligned { address: u64 },
     /// The word's opcode is 0 or over 50.
@@ -61,7 +61,7 @@ impl Refusal {
         }
     }
 
-    /// The pc, the address, the word or the line that the refusal names; 0 where it names none.
+    /// The pc, the missing byte, the address, the word or the line that the refusal names; 0 where it names none.
     ///
     /// ```
     /// assert_eq!(yokeglimmer::Refusal::Misaligned { address: 7 }.particular(), 7);
@@ -72,23 +72,23 @@ impl Refusal {
             | Refusal::PcMisaligned { pc }
             | Refusal::PcBeyond { pc }
             | Refusal::ListFull { pc } => pc,
-            Refusal::Beyond { address } | Refusal::Misaligned { address } => address,
+            Refusal::Beyond { missing, .. } => missing,
+            Refusal::Misaligned { address } => address,
             Refusal::BadOpcode { word } | Refusal::UnusedBits { word } => word.into(),
             Refusal::Malformed => 0,
             Refusal::BadLine { line } => line,
         }
     }
 
-    /// The refusal of a word, a step or a run, by its number and particular.
-    pub(crate) fn of(number: u64, particular: u64) -> Option<Refusal> {
-        let [pc, address] = [particular; 2];
-        let word = u32::try_from(particular);
+    /// The refusal of a step or a run over memory of that length, by its number and particular.
+    pub(crate) fn of(number: u64, particular: u64, length: usize) -> Option<Refusal> {
+        let [pc, missing, address] = [particular; 3];
+        let length = length as u64;
         match number {
             1 => Some(Refusal::DivisorZero { pc }),
-            2 => Some(Refusal::Beyond { address }),
+            2 if missing >= length => Some(Refusal::Beyond { missing, length }),
             3 => Some(Refusal::Misaligned { address }),
-            4 => Some(Refusal::BadOpcode { word: word.ok()? }),
-            5 => Some(Refusal::UnusedBits { word: word.ok()? }),
+            4 | 5 => Refusal::of_word(number, u32::try_from(particular).ok()?),
             6 => Some(Refusal::PcMisaligned { pc }),
             7 => Some(Refusal::PcBeyond { pc }),
             8 => Some(Refusal::ListFull { pc }),
@@ -96,15 +96,24 @@ impl Refusal {
             _ => None,
         }
     }
+
+    /// The refusal of a word that is no instruction, by its number.
+    pub(crate) fn of_word(number: u64, word: u32) -> Option<Refusal> {
+        match number {
+            4 => Some(Refusal::BadOpcode { word }),
+            5 => Some(Refusal::UnusedBits { word }),
+            _ => None,
+        }
+    }
 }
 
-// The words are those of docs/stops.txt.
+// The words are those of docs/stops.txt, but for 2, which can say more.
 impl fmt::Display for Refusal {
     fn fmt(&self, f: &mut fmt::Formatter<'_>) -> fmt::Result {
         write!(f, "refused {}: ", self.number())?;
         match self {
             Refusal::DivisorZero { pc } => write!(f, "the instruction divides by zero (pc {pc})"),
-            Refusal::Beyond { address } => write!(f, "the access reaches beyond memory (address {address})"),
+            Refusal::Beyond { missing, length } => write!(f, "byte {missing} is beyond the memory's {length}"),
             Refusal::Misaligned { address } => {
                 write!(f, "the access is not at a multiple of its size (address {address})")
             }
@@ -166,13 +175,13 @@ impl Stop {
         }
     }
 
-    /// The stop of a code and a particular, where there is one.
-    pub(crate) fn of(code: u64, particular: u64) -> Option<Stop> {
+    /// The stop of a code and a particular over memory of that length, where there is one.
+    pub(crate) fn of(code: u64, particular: u64, length: usize) -> Option<Stop> {
         match code {
             0 => Some(Stop::Fuel),
             64 => Some(Stop::Ebreak),
             65 => Some(Stop::Ecall),
-            _ => Refusal::of(code, particular).map(Stop::Refused),
+            _ => Refusal::of(code, particular, length).map(Stop::Refused),
         }
     }
 }

@@ -5,7 +5,7 @@ use yokeglimmer::{run, Mode, Refusal, Refused, State, Stop};
 const EVERY: [Stop; 13] = [
     Stop::Fuel,
     Stop::Refused(Refusal::DivisorZero { pc: 8 }),
-    Stop::Refused(Refusal::Beyond { address: 64 }),
+    Stop::Refused(Refusal::Beyond { missing: 64, length: 62 }),
     Stop::Refused(Refusal::Misaligned { address: 1 }),
     Stop::Refused(Refusal::BadOpcode { word: 0x800000f3 }),
     Stop::Refused(Refusal::UnusedBits { word: 0xb2 }),
@@ -30,9 +30,12 @@ fn row(words: &[&str]) -> (u64, String, String, String) {
     (words[0].parse().expect("a code"), words[1].to_string(), words[2].to_string(), words[3..].join(" "))
 }
 
-/// What a stop says, by the table's line.
+/// What a stop says, by the table's line; of a missing byte also how many there are.
 fn said(stop: Stop, name: &str, particular: &str, words: &str) -> String {
     let refusal = match stop {
+        Stop::Refused(Refusal::Beyond { missing, length }) => {
+            return format!("refused 2: byte {missing} is beyond the memory's {length}")
+        }
         Stop::Refused(refusal) => refusal,
         _ => return format!("{}: {words}", name.to_lowercase()),
     };

@@ -23,3 +23,4 @@ pub mod Ready
 pub mod Fuel
 pub mod Iterated
 pub mod Answers
+pub mod Missing

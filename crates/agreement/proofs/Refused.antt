@@ -3,6 +3,7 @@ use Prim.Native.Nat.{ℕ}
 use mathlib.Core.Path.{_≡_, refl}
 use mathlib.Core.Bool.{_&&_}
 use mathlib.Core.List.{List, []}
+use native.Mathlib.Omega.{arith}
 use lib.ListN.{length}
 use Rattle.refusal.specs.declared.Refusal.{Refusal}
 use Rattle.state.specs.Registers.{Registers}
@@ -25,10 +26,10 @@ use Rattle.agreement.specs.Statements.{RefusedStepsRestore, RefusedInstr
 use Rattle.agreement.proofs.Cases.{cond-case, step-case}
 
 -- an effect that is carried out is no refusal
-no-refusal : {A : Type 0} (g : Goes) (r : Refusal) (x y : A) → wentOf g ≡ W.Refused r → x ≡ y
-no-refusal G.On r x y e = cc
-no-refusal G.Ebreak r x y e = cc
-no-refusal G.Ecall r x y e = cc
+pub no-refusal : {P : Type 0} (g : Goes) (r : Refusal) → wentOf g ≡ W.Refused r → P
+no-refusal G.On r e = let z : _≡_ {A = ℕ} 0 1 = cc in absurd (omega arith)
+no-refusal G.Ebreak r e = let z : _≡_ {A = ℕ} 0 1 = cc in absurd (omega arith)
+no-refusal G.Ecall r e = let z : _≡_ {A = ℕ} 0 1 = cc in absurd (omega arith)
 
 refused-undoes : (r : Refusal) (w : World) → Undoes (refused r w) w
 refused-undoes r w q e = (refl, refl)
@@ -39,14 +40,14 @@ done-undoes room (Refuses r) w R = refused-undoes r w
 done-undoes room (Does e) w R =
     cond-case (λ (s : Stepped). Undoes s w) (lacks room (length (checksFor e))) (refused _ w) (does e (w .halted) R (w .memory))
     (λ _. refused-undoes _ w)
-    (λ _ r p. (no-refusal (e .goes) r _ _ p, no-refusal (e .goes) r _ _ p))
+    (λ _ r p. no-refusal (e .goes) r p)
 
 pub refused-instructions-undo : RefusedInstructionsUndo
 unfolding execute finish
 refused-instructions-undo k room N i w =
     let l = limbsIn k N i (w .registers) in
     cond-case (λ (s : Stepped). Undoes s w) (l .waits) (onward w (l .registers)) _
-    (λ _ r p. (no-refusal G.On r _ _ p, refl))
+    (λ _ r p. no-refusal G.On r p)
     (λ _. done-undoes room _ w _)
 
 pub refused-given-undo : RefusedGivenUndo

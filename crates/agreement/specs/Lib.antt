@@ -4,3 +4,4 @@ pub mod Contracts
 pub mod Fuel
 pub mod ByHand
 pub mod Statements
+pub mod Missing

@@ -33,9 +33,10 @@ onAccess served beyond misaligned Served = served
 onAccess served beyond misaligned Beyond = beyond
 onAccess served beyond misaligned Misaligned = misaligned
 
--- the particular of refusal 2, in a memory of len bytes
+-- the particular of refusal 2, in a memory of len bytes: the first byte that is missing, which is the address itself where it lies at or
+-- beyond the end, else the memory's length
 abbrev pub beyondAt : ℕ → ℕ → ℕ
-beyondAt len address = address
+beyondAt len address = cond (leb len address) address len
 
 abbrev pub loadOf : Size → List ℕ → ℕ → Loaded
 loadOf size m address =

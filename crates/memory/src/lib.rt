@@ -87,10 +87,14 @@ fn reach(len: usize, address: u64, size: Size) -> Access
     Access::Served
 }
 
-// The address that refusal 2 names. It does not depend on the length yet: that a request wants it to is why it is given here.
+// The first byte that an access from `address` on lacks, which refusal 2 names.
 fn beyond_at(len: usize, address: u64) -> u64
     ensures { λ r. ⌜ r ≡ beyondAt len address ⌝ }
 {
+    let len = len as u64;
+    if address < len {
+        return len;
+    }
     address
 }
 
@@ -124,7 +128,7 @@ pub fn load(m: &[u8], address: u64, size: Size) -> Loaded
     match reach(m.len(), address, size) {
         Access::Served => Loaded::Value(read(m, address as usize, size)),
         Access::Beyond => Loaded::Refused(Refusal::Beyond {
-            address: beyond_at(m.len(), address),
+            missing: beyond_at(m.len(), address),
         }),
         Access::Misaligned => Loaded::Refused(Refusal::Misaligned { address }),
     }
@@ -137,7 +141,7 @@ fn storable(len: usize, address: u64, size: Size) -> Stored
     match reach(len, address, size) {
         Access::Served => Stored::Done,
         Access::Beyond => Stored::Refused(Refusal::Beyond {
-            address: beyond_at(len, address),
+            missing: beyond_at(len, address),
         }),
         Access::Misaligned => Stored::Refused(Refusal::Misaligned { address }),
     }

@@ -10,7 +10,7 @@ use Rattle.refusal.specs.declared.Stop.the-variants.{Fuel, Ebreak, Ecall
 -- the table's first column
 abbrev pub numberOf : Refusal → ℕ
 numberOf (DivisorZero pc) = 1
-numberOf (Beyond address) = 2
+numberOf (Beyond missing) = 2
 numberOf (Misaligned address) = 3
 numberOf (BadOpcode word) = 4
 numberOf (UnusedBits word) = 5
@@ -22,7 +22,7 @@ numberOf Malformed = 9
 -- the table's third column
 abbrev pub particularOf : Refusal → ℕ
 particularOf (DivisorZero pc) = pc
-particularOf (Beyond address) = address
+particularOf (Beyond missing) = missing
 particularOf (Misaligned address) = address
 particularOf (BadOpcode word) = word
 particularOf (UnusedBits word) = word

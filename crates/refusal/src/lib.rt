@@ -2,10 +2,10 @@
 ghost use mathlib.Core.Path.{_≡_};
 ghost use Rattle.refusal.specs.Stops.{numberOf, particularOf, codeOf, particularAt};
 
-// In the order of document 01's numbers, 1 to 9, each with the pc, the address or the word that it names.
+// In the order of document 01's numbers, 1 to 9, each with the pc, the missing byte, the address or the word that it names.
 pub enum Refusal {
     DivisorZero { pc: u64 },
-    Beyond { address: u64 },
+    Beyond { missing: u64 },
     Misaligned { address: u64 },
     BadOpcode { word: u32 },
     UnusedBits { word: u32 },
@@ -27,7 +27,7 @@ pub fn number_of(r: Refusal) -> u64
 {
     match r {
         Refusal::DivisorZero { pc: _ } => 1,
-        Refusal::Beyond { address: _ } => 2,
+        Refusal::Beyond { missing: _ } => 2,
         Refusal::Misaligned { address: _ } => 3,
         Refusal::BadOpcode { word: _ } => 4,
         Refusal::UnusedBits { word: _ } => 5,
@@ -43,7 +43,7 @@ pub fn particular_of(r: Refusal) -> u64
 {
     match r {
         Refusal::DivisorZero { pc } => pc,
-        Refusal::Beyond { address } => address,
+        Refusal::Beyond { missing } => missing,
         Refusal::Misaligned { address } => address,
         Refusal::BadOpcode { word } => word as u64,
         Refusal::UnusedBits { word } => word as u64,

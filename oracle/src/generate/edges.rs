@@ -1,24 +1,17 @@
 use zkir_runtime::state::Held;
-use zkir_spec::Opcode;
 
 use crate::assemble::{image, word};
 use crate::case::Case;
-use crate::corners;
+use crate::corners::{self, ACCESSES};
 use crate::random::Random;
 
 use super::{mode, strew};
-
-#[rustfmt::skip]
-const ACCESSES: [Opcode; 10] = [
-    Opcode::Lb, Opcode::Lbu, Opcode::Lh, Opcode::Lhu, Opcode::Lw, Opcode::Ld,
-    Opcode::Sb, Opcode::Sh, Opcode::Sw, Opcode::Sd,
-];
 
 /// Accesses around memory's end and around 2^64, over memories of every length.
 pub fn edge(random: &mut Random) -> Case {
     let length = random.between(8, 80);
     let imm = random.between(-65536, 65535) as i32;
-    let program: Vec<u32> = (0..2).map(|_| word(random.pick(&ACCESSES), [3, 1, 2], imm)).collect();
+    let program: Vec<u32> = (0..2).map(|_| word(random.pick(&ACCESSES).0, [3, 1, 2], imm)).collect();
     let address = match random.below(8) {
         0 => random.between(-16, 8),
         1 => random.draw() as i64,

@@ -1,12 +1,16 @@
 use zkir_runtime::range_check::RangeCheckTracker;
+use zkir_runtime::state::Held;
 
+use crate::assemble::word;
 use crate::case::Case;
 use crate::corners;
 use crate::generate;
 use crate::layout::{number, read_state, ANSWER_BYTES};
 use crate::listed;
+use crate::machine::Mode;
 use crate::numbers::Argument;
 use crate::random::Random;
+use crate::words::parts;
 
 use super::{Inside, Lent, Limbs};
 
@@ -96,6 +100,24 @@ impl Call {
     }
 }
 
+/// Each load and store, given, at the ends of memory. A step needs its word there: so no other call comes to the shortest ones.
+pub fn at_the_ends() -> Vec<Call> {
+    let mut all = Vec::new();
+    for mode in Mode::BOTH {
+        for (opcode, size) in corners::ACCESSES {
+            for (length, address) in corners::ends(size) {
+                let mut case = Case::new(mode, (1..=length as u8).collect(), 0);
+                case.set_register(1, Held::Whole(address), 64);
+                case.set_register(2, Held::Whole(0xfedc_ba98_7654_3210), 64);
+                let (opcode, registers, imm) = parts(word(opcode, [3, 1, 2], 0)).expect("an instruction");
+                let what = What::Execute { opcode, registers, imm };
+                all.push(Call { what, case, lists: Lists::empty_of(0) });
+            }
+        }
+    }
+    all
+}
+
 /// A call of any of the functions, steps and runs most of all.
 pub fn generated(random: &mut Random) -> Call {
     let kind = random.below(16);
@@ -130,7 +152,7 @@ fn given(case: &mut Case, random: &mut Random) -> What {
         case.set_pc(corners::value(random));
     }
     let word = case.memory.get(pc..).and_then(|from| from.first_chunk().copied()).map(u32::from_le_bytes);
-    let decoded = word.and_then(crate::words::parts);
+    let decoded = word.and_then(parts);
     match decoded {
         Some((opcode, registers, imm)) if !random.chance(4) => What::Execute { opcode, registers, imm },
         _ => What::Execute {

@@ -5,7 +5,7 @@ mod calls;
 mod compare;
 mod oracle;
 
-pub use calls::{generated, Call, Left, Lists, What};
+pub use calls::{at_the_ends, generated, Call, Left, Lists, What};
 pub use compare::{Difference, InsideComparer};
 pub use oracle::OracleInside;
 

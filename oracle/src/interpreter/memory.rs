@@ -2,7 +2,8 @@
 
 use crate::refusal::Refusal;
 
-/// Where the bytes lie. First "address not a multiple of size" (3), then "address + size beyond memory" (2).
+/// Where the bytes lie. First "address not a multiple of size" (3), then "address + size beyond memory" (2), which names the
+/// first byte that is missing.
 #[inline]
 fn place<const SIZE: usize>(memory: &[u8], address: u64) -> Result<usize, Refusal> {
     if address % SIZE as u64 != 0 {
@@ -10,7 +11,7 @@ fn place<const SIZE: usize>(memory: &[u8], address: u64) -> Result<usize, Refusa
     }
     match memory.len().checked_sub(SIZE) {
         Some(last) if address <= last as u64 => Ok(address as usize),
-        _ => Err(Refusal::Beyond { address }),
+        _ => Err(Refusal::Beyond { missing: address.max(memory.len() as u64) }),
     }
 }
 

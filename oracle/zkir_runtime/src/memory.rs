@@ -67,15 +67,18 @@ impl<'a> Memory<'a> {
     }
 
     /// "then 1, or 3 and 2": first "address not a multiple of size" (3), then "address + size beyond memory, in whole
-    /// numbers" (2): a sum that no 64 bits hold is beyond any memory.
+    /// numbers" (2): a sum that no 64 bits hold is beyond any memory. By document 02 it carries "the first byte that is
+    /// missing: the address itself if it lies at or beyond the end, else the memory's length".
     #[inline]
     fn place<const SIZE: usize>(&self, address: u64) -> Result<Range<usize>> {
         if address % SIZE as u64 != 0 {
             return Err(RuntimeError::MisalignedAccess { address });
         }
+        let length = self.bytes.len() as u64;
         match address.checked_add(SIZE as u64) {
-            Some(end) if end <= self.bytes.len() as u64 => Ok(address as usize..end as usize),
-            _ => Err(RuntimeError::OutOfBounds { address }),
+            Some(end) if end <= length => Ok(address as usize..end as usize),
+            _ if address >= length => Err(RuntimeError::OutOfBounds { address }),
+            _ => Err(RuntimeError::OutOfBounds { address: length }),
         }
     }
 }

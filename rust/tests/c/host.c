@@ -107,6 +107,8 @@ static void stops_and_refusals(void) {
     one_word("Ecall", 49, 0, MEMORY_BYTES, ZKIR_ECALL, 0);
     one_word("Div R3,R2,R0", 5 | 3 << 7 | 2 << 11, 0, MEMORY_BYTES, ZKIR_DIVISOR_ZERO, 0);
     one_word("Lw R3,4(R1)", 35 | 3 << 7 | 1 << 11 | 4 << 15, 0, MEMORY_BYTES, ZKIR_BEYOND, 64);
+    one_word("Lw R3,0(R1) in 62 bytes", 35 | 3 << 7 | 1 << 11, 0, 62, ZKIR_BEYOND, 62);
+    one_word("Sh R2,2(R1) in 60 bytes", 38 | 1 << 7 | 2 << 11 | 2 << 15, 0, 60, ZKIR_BEYOND, 62);
     one_word("Sw R2,1(R1)", 39 | 1 << 7 | 2 << 11 | 1 << 15, 0, MEMORY_BYTES, ZKIR_MISALIGNED, 61);
     one_word("word 0", 0, 0, MEMORY_BYTES, ZKIR_BAD_OPCODE, 0);
     one_word("opcode 51", 51, 0, MEMORY_BYTES, ZKIR_BAD_OPCODE, 51);

@@ -160,6 +160,8 @@ static void refused_word(const char *name, uint32_t word, uint64_t pc, size_t me
 static void refusals(void) {
     refused_word("Div R3,R1,R0", word(5, 3, 1, 0), 0, MEMORY_BYTES, ZKIR_DIVISOR_ZERO, 0);
     refused_word("Lw R3,4(R1)", word(35, 3, 1, 4), 0, MEMORY_BYTES, ZKIR_BEYOND, 64);
+    refused_word("Lw R3,0(R1) in 62 bytes", word(35, 3, 1, 0), 0, 62, ZKIR_BEYOND, 62);
+    refused_word("Sh R2,2(R1) in 60 bytes", word(38, 1, 2, 2), 0, 60, ZKIR_BEYOND, 62);
     refused_word("Sw R2,1(R1)", word(39, 1, 2, 1), 0, MEMORY_BYTES, ZKIR_MISALIGNED, 61);
     refused_word("opcode 51", 51, 0, MEMORY_BYTES, ZKIR_BAD_OPCODE, 51);
     refused_word("Slli by 64", word(19, 0, 0, 64), 0, MEMORY_BYTES, ZKIR_UNUSED_BITS, word(19, 0, 0, 64));

@@ -57,8 +57,8 @@ pub fn refusals() -> [(u64, u64, u32, Refusal); 11] {
     let (shift, call_with_bits) = (i(SLLI, 1, 1, 64), ECALL | 1 << 31);
     [
         (7, 0, division, Refusal::DivisorZero { pc: 0 }),
-        (60, 0, beyond, Refusal::Beyond { address: 64 }),
-        (u64::MAX - 7, 0, beyond, Refusal::Beyond { address: u64::MAX - 3 }),
+        (60, 0, beyond, Refusal::Beyond { missing: 64, length: 64 }),
+        (u64::MAX - 7, 0, beyond, Refusal::Beyond { missing: u64::MAX - 3, length: 64 }),
         (1, 0, misaligned, Refusal::Misaligned { address: 1 }),
         (0, 0, 0, Refusal::BadOpcode { word: 0 }),
         (0, 0, 51 | 1 << 31, Refusal::BadOpcode { word: 0x80000033 }),
