@@ -164,7 +164,7 @@ module _ (k : Mode) (room : Room) (R : Rules) (w : World) where
   unfolding obey
   obey-names (D.Instruction i) e r p two = record { instruction = i; fetched = e; lacks = instructions-name k room (R .notes) i w r p two }
   obey-names (D.Refused q) e r p two =
-      refused-names (LacksAtPc R w) q w (λ two. let number = decoded-refused _ _ q e in absurd (omega arith)) r p two
+      refused-names (LacksAtPc R w) q w (λ h. let number = decoded-refused _ _ q e in absurd (omega arith)) r p two
 
   fetched-names : (a : Access)
       → StepNames (LacksAtPc R w)

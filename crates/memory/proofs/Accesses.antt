@@ -5,8 +5,8 @@ use mathlib.Core.Bool.{Bool, true, false, cond}
 use native.Mathlib.Omega.{arith}
 use lib.Dec.{leb, eqb}
 use borrow.Author.Tests.{leb-true}
-use Rattle.refusal.specs.Stops.{refusalOf}
-use Rattle.memory.specs.Memory.{sizeOf, accessOf, onAccess, beyondAt, storeOf}
+use Rattle.refusal.specs.declared.Refusal.{Refusal}
+use Rattle.memory.specs.Memory.{sizeOf, accessOf, onAccess, storeOf}
 use Rattle.memory.specs.declared.Size.{Size}
 use Rattle.memory.specs.declared.Stored.the-variants as S
 use Rattle.memory.specs.declared.Access.{Access}
@@ -53,9 +53,9 @@ module _ {A : Type 0} (served beyond mis : A) (w : Access) where
 -- a store that is served is within the memory
 pub stored-fits : (size : Size) (len address : ℕ) → storeOf size len address ≡ S.Done → address + sizeOf size ≤ len
 unfolding onAccess
-stored-fits size len address e = served-fits (sizeOf size) len address (served (accessOf (sizeOf size) len address) e)
+stored-fits size len address e = served-fits (sizeOf size) len address (served _ _ (accessOf (sizeOf size) len address) e)
   where
-    served : (w : Access) → onAccess S.Done (S.Refused (refusalOf 2 (beyondAt len address))) (S.Refused (refusalOf 3 address)) w ≡ S.Done → w ≡ Served
-    served Served e = refl
-    served Beyond e = cc
-    served Misaligned e = cc
+    served : (q r : Refusal) (w : Access) → onAccess S.Done (S.Refused q) (S.Refused r) w ≡ S.Done → w ≡ Served
+    served q r Served e = refl
+    served q r Beyond e = cc
+    served q r Misaligned e = cc
