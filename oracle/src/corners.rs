@@ -3,6 +3,7 @@
 use zkir_runtime::state::Held;
 use zkir_spec::Opcode;
 
+use crate::machine::Mode;
 use crate::random::Random;
 
 #[rustfmt::skip]
@@ -29,9 +30,15 @@ pub const ACCESSES: [(Opcode, u64); 10] = [
 
 /// For an access of so many bytes, a memory's length and the address: its last byte is the last that there is; is missing; the
 /// address is the length; the access ends at 2^64; there are fewer bytes than it takes; there are none.
-pub fn ends(size: u64) -> [(usize, u64); 6] {
+fn ends(size: u64) -> [(usize, u64); 6] {
     let bytes = size as usize;
     [(16, 16 - size), (15 + bytes, 16), (16, 16), (16, size.wrapping_neg()), (bytes - 1, 0), (0, 0)]
+}
+
+/// Each load and store in both modes at each of its ends: mode, opcode, the memory's length, the address.
+pub fn at_the_ends() -> impl Iterator<Item = (Mode, Opcode, usize, u64)> {
+    let accesses = Mode::BOTH.into_iter().flat_map(|mode| ACCESSES.map(|access| (mode, access)));
+    accesses.flat_map(|(mode, (opcode, size))| ends(size).map(|(length, address)| (mode, opcode, length, address)))
 }
 
 /// Whole corner values, and in deferred mode all pairs of corner limbs.

@@ -7,7 +7,6 @@ use crate::corners;
 use crate::generate;
 use crate::layout::{number, read_state, ANSWER_BYTES};
 use crate::listed;
-use crate::machine::Mode;
 use crate::numbers::Argument;
 use crate::random::Random;
 use crate::words::parts;
@@ -102,20 +101,14 @@ impl Call {
 
 /// Each load and store, given, at the ends of memory. A step needs its word there: so no other call comes to the shortest ones.
 pub fn at_the_ends() -> Vec<Call> {
-    let mut all = Vec::new();
-    for mode in Mode::BOTH {
-        for (opcode, size) in corners::ACCESSES {
-            for (length, address) in corners::ends(size) {
-                let mut case = Case::new(mode, (1..=length as u8).collect(), 0);
-                case.set_register(1, Held::Whole(address), 64);
-                case.set_register(2, Held::Whole(0xfedc_ba98_7654_3210), 64);
-                let (opcode, registers, imm) = parts(word(opcode, [3, 1, 2], 0)).expect("an instruction");
-                let what = What::Execute { opcode, registers, imm };
-                all.push(Call { what, case, lists: Lists::empty_of(0) });
-            }
-        }
-    }
-    all
+    let call = |(mode, opcode, length, address)| {
+        let mut case = Case::new(mode, (1..=length as u8).collect(), 0);
+        case.set_register(1, Held::Whole(address), 64);
+        case.set_register(2, Held::Whole(0xfedc_ba98_7654_3210), 64);
+        let (opcode, registers, imm) = parts(word(opcode, [3, 1, 2], 0)).expect("an instruction");
+        Call { what: What::Execute { opcode, registers, imm }, case, lists: Lists::empty_of(0) }
+    };
+    corners::at_the_ends().map(call).collect()
 }
 
 /// A call of any of the functions, steps and runs most of all.

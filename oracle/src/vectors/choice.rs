@@ -5,7 +5,7 @@ use zkir_spec::Opcode;
 
 use crate::assemble::{i, image, jal, r, s, word, EBREAK};
 use crate::case::Case;
-use crate::corners::{bound, ends, operands, sharings, ACCESSES, IMMEDIATES};
+use crate::corners::{at_the_ends, bound, operands, sharings, IMMEDIATES};
 use crate::generate::{self, FAMILIES};
 use crate::listed;
 use crate::machine::Mode;
@@ -19,7 +19,7 @@ const SEED: u64 = 1;
 pub fn sections() -> Vec<(String, Vec<Call>)> {
     let mut all = vec![("document 01's corners, in its order, plain and deferred".to_string(), named())];
     all.push(("every opcode on corner operands".to_string(), every_opcode(20)));
-    all.push(("loads and stores at the ends of memory".to_string(), at_the_ends()));
+    all.push(("loads and stores at the ends of memory".to_string(), accesses()));
     let sampled =
         [("bounds", 700), ("shift amounts", 2000), ("limbs", 12000), ("addresses", 150), ("words", 15), ("damages", 8)];
     for (name, section) in SMALL.into_iter().chain(LARGE) {
@@ -71,20 +71,15 @@ fn every_opcode(calls: usize) -> Vec<Call> {
     all
 }
 
-/// Of each load and store; the shortest memories lack its word.
-fn at_the_ends() -> Vec<Call> {
-    let mut all = Vec::new();
-    for mode in Mode::BOTH {
-        for (opcode, size) in ACCESSES {
-            for (length, address) in ends(size) {
-                let held = [0, address, 0xfedc_ba98_7654_3210].map(Held::Whole);
-                let mut case = with_operands(mode, word(opcode, [3, 1, 2], 0), [3, 1, 2], held, [0, 64, 64]);
-                case.memory.truncate(length);
-                all.push(Call::Host(case));
-            }
-        }
-    }
-    all
+/// The shortest memories lack the word of the load or store.
+fn accesses() -> Vec<Call> {
+    let call = |(mode, opcode, length, address)| {
+        let held = [0, address, 0xfedc_ba98_7654_3210].map(Held::Whole);
+        let mut case = with_operands(mode, word(opcode, [3, 1, 2], 0), [3, 1, 2], held, [0, 64, 64]);
+        case.memory.truncate(length);
+        Call::Host(case)
+    };
+    at_the_ends().map(call).collect()
 }
 
 fn named() -> Vec<Call> {
