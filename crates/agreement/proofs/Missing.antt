@@ -126,8 +126,11 @@ effect-names N Ecall v m = acts
 effect-names N Ebreak v m = acts
 
 -- ---- an instruction
+abbrev WentNames : (ℕ → Type 0) → Went → Type 0
+WentNames P g = (r : Refusal) → g ≡ W.Refused r → numberOf r ≡ 2 → P (particularOf r)
+
 abbrev StepNames : (ℕ → Type 0) → Stepped → Type 0
-StepNames P s = (r : Refusal) → s .went ≡ W.Refused r → numberOf r ≡ 2 → P (particularOf r)
+StepNames P s = WentNames P (s .went)
 
 refused-names : (P : ℕ → Type 0) (q : Refusal) (w : World) → (numberOf q ≡ 2 → P (particularOf q)) → StepNames P (refused q w)
 refused-names P q w h r e two =
@@ -174,17 +177,14 @@ module _ (k : Mode) (room : Room) (R : Rules) (w : World) where
   fetched-names Beyond = refused-names (LacksAtPc R w) _ w (other 7 refl)
   fetched-names Misaligned = refused-names (LacksAtPc R w) _ w (other 6 refl)
 
-abbrev LeftNames : Rules → World → Left → Type 0
-LeftNames R w s = (r : Refusal) → s .went ≡ W.Refused r → numberOf r ≡ 2 → LacksAtPc R w (particularOf r)
-
-inner-names : (k : Mode) (R : Rules) (w : World) (l : Lists) → LeftNames R w (stepOf k R w l)
+inner-names : (k : Mode) (R : Rules) (w : World) (l : Lists) → WentNames (LacksAtPc R w) (stepOf k R w l .went)
 unfolding stepOf
 inner-names k R w l = fetched-names k (roomOf l) R w (accessOf 4 (length (w .memory)) (w .pc))
 
 pub steps-name : StepsNameMissing
 unfolding step
 steps-name k R w l =
-    cond-case (LeftNames R w) (admits k (w .registers) && listsFit l) (stepOf k R w l) (left _ w l)
+    cond-case (λ (s : Left). WentNames (LacksAtPc R w) (s .went)) (admits k (w .registers) && listsFit l) (stepOf k R w l) (left _ w l)
     (λ _. inner-names k R w l)
     (λ _. refused-names (LacksAtPc R w) (refusalOf 9 0) w (other 9 refl))
 

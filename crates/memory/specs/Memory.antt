@@ -33,8 +33,8 @@ onAccess served beyond misaligned Served = served
 onAccess served beyond misaligned Beyond = beyond
 onAccess served beyond misaligned Misaligned = misaligned
 
--- the particular of refusal 2, in a memory of len bytes: the first byte that is missing, which is the address itself where it lies at or
--- beyond the end, else the memory's length
+-- document 02, A2: the particular of refusal 2, in a memory of len bytes, is the first byte that is missing, "the address itself if it lies
+-- at or beyond the end, else the memory's length"
 abbrev pub beyondAt : ℕ → ℕ → ℕ
 beyondAt len address = cond (leb len address) address len
 

@@ -19,7 +19,7 @@ numberOf (PcBeyond pc) = 7
 numberOf (ListFull pc) = 8
 numberOf Malformed = 9
 
--- the table's third column
+-- the table's third column, but that document 02 (A2) makes the particular of 2 the first byte that is missing
 abbrev pub particularOf : Refusal → ℕ
 particularOf (DivisorZero pc) = pc
 particularOf (Beyond missing) = missing

@@ -21,7 +21,7 @@ data FourOrFive : Taken → Type 0 where
   apart : {p : Parts} → FourOrFive (T.Apart p)
   refused : {r : Refusal} → 4 ≤ numberOf r → numberOf r ≤ 5 → FourOrFive (T.Refused r)
 
-by-bits : (unused : Bool) (p : Parts) (w : ℕ) → FourOrFive (cond unused (T.Apart p) (T.Refused (refusalOf 5 w)))
+by-bits : (clear : Bool) (p : Parts) (w : ℕ) → FourOrFive (cond clear (T.Apart p) (T.Refused (refusalOf 5 w)))
 by-bits true p w = apart
 by-bits false p w = refused {r = refusalOf 5 w} (omega arith) (omega arith)
 
