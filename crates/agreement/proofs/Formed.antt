@@ -87,13 +87,13 @@ well-formed R f =
     rw (f .zero-whole, f .zero-bound)
     (all-from (registerFits R) 16 (λ n. rw (le-leb (noted R n) 64 (f .bounded n)) (small-fits (holds R n) (f .small n))))
 
--- a write keeps each bound and each register in its range, whatever the lists' lengths
-bound-set : (bs : List ℕ) (k b j : ℕ) → b ≤ 64 → getD bs j 0 ≤ 64 → getD (set bs k b) j 0 ≤ 64
-bound-set [] k b j p h = h
-bound-set (x ∷ bs) zero b zero p h = p
-bound-set (x ∷ bs) zero b (suc j) p h = h
-bound-set (x ∷ bs) (suc k) b zero p h = h
-bound-set (x ∷ bs) (suc k) b (suc j) p h = bound-set bs k b j p h
+-- a write keeps what holds of each number, whatever the list's length
+pub set-keeps : (P : ℕ → Type 0) (l : List ℕ) (k v j : ℕ) → P v → P (getD l j 0) → P (getD (set l k v) j 0)
+set-keeps P [] k v j p h = h
+set-keeps P (x ∷ l) zero v zero p h = p
+set-keeps P (x ∷ l) zero v (suc j) p h = h
+set-keeps P (x ∷ l) (suc k) v zero p h = h
+set-keeps P (x ∷ l) (suc k) v (suc j) p h = set-keeps P l k v j p h
 
 nothing-small : (f : Bool) → Small (heldOf f 0)
 unfolding heldOf limbsFit
@@ -118,7 +118,7 @@ formed-place (suc k) v f b R s l h =
     record {
       zero-whole = rw (getD-set-other (R .accumulated) (suc k) 0 f false z, getD-set-other (R .values) (suc k) 0 v 0 z) (h .zero-whole);
       zero-bound = rw (getD-set-other (R .bounds) (suc k) 0 b 0 z) (h .zero-bound);
-      bounded = λ n. bound-set (R .bounds) (suc k) b (n % 16) l (h .bounded n);
+      bounded = λ n. set-keeps (λ n. n ≤ 64) (R .bounds) (suc k) b (n % 16) l (h .bounded n);
       small = λ n. small-set (R .values) (R .accumulated) (suc k) v f (n % 16) s (h .small n);
     }
 

@@ -27,7 +27,8 @@ use Rattle.agreement.proofs.Cases.{cond-case, limb-cases, step-case}
 
 module _ (Q : Registers → Type 0) (N : Notes)
     (whole : (i : Instruction) (v : Seen) (m : List ℕ) (e : Effect) (R : Registers) → effect N i v m ≡ Does e → Q R → Q (put R (e .rd) (Whole (e .value)) (e .bound))) where
-  done-keeps : (room : Room) (i : Instruction) (v : Seen) (o : Outcome) (w : World) (R : Registers) → effect N i v (w .memory) ≡ o → Q (w .registers) → Q R → Q ((done room o w R) .world .registers)
+  done-keeps : (room : Room) (i : Instruction) (v : Seen) (o : Outcome) (w : World) (R : Registers) → effect N i v (w .memory) ≡ o → Q (w .registers)
+      → Q R → Q ((done room o w R) .world .registers)
   unfolding done
   done-keeps room i v (Refuses r) w R p z h = z
   done-keeps room i v (Does e) w R p z h =
@@ -42,7 +43,6 @@ module _ (Q : Registers → Type 0) (N : Notes)
 
 module _ (Q : Registers → Type 0) (N : Notes)
     (normal : (n : ℕ) (R : Registers) → Q R → Q (normalise n R))
-    (whole : (i : Instruction) (v : Seen) (m : List ℕ) (e : Effect) (R : Registers) → effect N i v m ≡ Does e → Q R → Q (put R (e .rd) (Whole (e .value)) (e .bound)))
     (sum : (rd : ℕ) (x y : Held) (a b : ℕ) (R T : Registers) → Q R → Q T → Q (sumInto rd x y (N .sum a b) R T))
     (difference : (rd rs1 rs2 : ℕ) (R : Registers) → Q R → Q (subtracted N rd rs1 rs2 R)) where
   each-keeps : (ns : List ℕ) (R : Registers) → Q R → Q (normaliseEach ns R)
@@ -50,12 +50,12 @@ module _ (Q : Registers → Type 0) (N : Notes)
   each-keeps [] R h = h
   each-keeps (n ∷ ns) R h = each-keeps ns _ (normal n R h)
 
-  settle-keeps : (k : Mode) (i : Instruction) (R : Registers) → Q R → Q (settleSources k i R)
+  pub settle-keeps : (k : Mode) (i : Instruction) (R : Registers) → Q R → Q (settleSources k i R)
   unfolding settleSources
   settle-keeps Plain i R h = h
   settle-keeps Deferred i R h = each-keeps (sources i) R h
 
-  limbs-keep : (k : Mode) (i : Instruction) (R : Registers) → Q R → Q ((limbsIn k N i R) .registers)
+  pub limbs-keep : (k : Mode) (i : Instruction) (R : Registers) → Q R → Q ((limbsIn k N i R) .registers)
   unfolding limbsIn
   limbs-keep Plain i R h = h
   limbs-keep Deferred i R h =
@@ -66,31 +66,32 @@ module _ (Q : Registers → Type 0) (N : Notes)
       (λ _. h)
       i
 
-  pub execute-keeps : (k : Mode) (room : Room) (i : Instruction) (w : World) → Q (w .registers) → Q ((execute k room N i w) .world .registers)
+  pub execute-keeps : ((i : Instruction) (v : Seen) (m : List ℕ) (e : Effect) (R : Registers) → effect N i v m ≡ Does e → Q R → Q (put R (e .rd) (Whole (e .value)) (e .bound)))
+      → (k : Mode) (room : Room) (i : Instruction) (w : World) → Q (w .registers) → Q ((execute k room N i w) .world .registers)
   unfolding execute finish
-  execute-keeps k room i w h =
+  execute-keeps whole k room i w h =
       let l = limbsIn k N i (w .registers) in
       cond-case (λ (s : Stepped). Q (s .world .registers)) (l .waits) (onward w (l .registers)) _
       (λ _. limbs-keep k i (w .registers) h)
       (λ _. done-keeps Q N whole room i _ _ w _ refl h (settle-keeps k i (w .registers) h))
 
-module _ (Q : Registers → Type 0) (k : Mode) (R : Rules)
-    (keeps : (room : Room) (i : Instruction) (w : World) → Q (w .registers) → Q ((execute k room (R .notes) i w) .world .registers)) where
-  pub inner-step-keeps : (w : World) (l : Lists) → Q (w .registers) → Q ((stepOf k R w l) .world .registers)
+module _ (Q : World → Type 0) (k : Mode) (R : Rules)
+    (keeps : (room : Room) (i : Instruction) (w : World) → Q w → Q ((execute k room (R .notes) i w) .world)) where
+  pub inner-step-keeps : (w : World) (l : Lists) → Q w → Q ((stepOf k R w l) .world)
   unfolding stepOf
-  inner-step-keeps w l = step-case (λ (w : World) (s : Stepped). Q (w .registers) → Q (s .world .registers)) k (roomOf l) R (λ r w h. h) (keeps (roomOf l)) w
+  inner-step-keeps w l = step-case (λ (w : World) (s : Stepped). Q w → Q (s .world)) k (roomOf l) R (λ r w h. h) (keeps (roomOf l)) w
 
-  pub step-keeps : (w : World) (l : Lists) → Q (w .registers) → Q ((step k R w l) .world .registers)
+  pub step-keeps : (w : World) (l : Lists) → Q w → Q ((step k R w l) .world)
   unfolding step
   step-keeps w l h =
-      cond-case (λ (s : Left). Q (s .world .registers)) (admits k (w .registers) && listsFit l) (stepOf k R w l) (left _ w l)
+      cond-case (λ (s : Left). Q (s .world)) (admits k (w .registers) && listsFit l) (stepOf k R w l) (left _ w l)
       (λ _. inner-step-keeps w l h)
       (λ _. h)
 
   abbrev QAfter : Answer → Type 0
-  QAfter a = Q (a .world .registers)
+  QAfter a = Q (a .world)
 
-  loop-keeps : (n : ℕ) (w : World) (l : Lists) → Q (w .registers) → QAfter (loop n k R w l)
+  loop-keeps : (n : ℕ) (w : World) (l : Lists) → Q w → QAfter (loop n k R w l)
   unfolding loop following
   loop-keeps zero w l h = h
   loop-keeps (suc n) w l h =
@@ -100,7 +101,7 @@ module _ (Q : Registers → Type 0) (k : Mode) (R : Rules)
       (λ _. loop-keeps n (s .world) (s .lists) z)
       (λ _. z)
 
-  pub run-keeps : (fuel : ℕ) (w : World) (l : Lists) → Q (w .registers) → QAfter (run k R fuel w l)
+  pub run-keeps : (fuel : ℕ) (w : World) (l : Lists) → Q w → QAfter (run k R fuel w l)
   unfolding run
   run-keeps fuel w l h =
       cond-case QAfter (admits k (w .registers) && listsFit l) _ (answer _ _ w _)

@@ -13,6 +13,7 @@ pub mod Sized
 pub mod Agree
 pub mod Normalised
 pub mod Results
+pub mod Unlent
 pub mod Runs
 pub mod Bytes
 pub mod Calls
@@ -24,3 +25,6 @@ pub mod Fuel
 pub mod Iterated
 pub mod Answers
 pub mod Missing
+pub mod Wide
+pub mod InBits
+pub mod Length

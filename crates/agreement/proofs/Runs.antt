@@ -2,7 +2,6 @@
 use Prim.Native.Nat.{ℕ, zero, suc}
 use mathlib.Core.Path.{_≡_, refl, sym, ap, _∙_}
 use mathlib.Core.Bool.{Bool, true, false, cond, not, _&&_}
-use mathlib.Core.List.{List}
 use lib.ListN.{getD}
 use native.Mathlib.Omega.{arith}
 use Rattle.refusal.specs.Stops.{refusalOf}
@@ -21,8 +20,7 @@ use Rattle.execute.specs.World.{World, Stepped}
 use Rattle.execute.specs.Execute.{admits}
 use Rattle.execute.specs.declared.Mode.{Mode}
 use Rattle.execute.specs.declared.Mode.the-variants.{Plain, Deferred}
-use Rattle.pending.specs.Pending.{Lists, Check, listsFit, roomAt, listing, noLists}
-use Rattle.pending.proofs.Lists.{unlent-stays}
+use Rattle.pending.specs.Pending.{Lists, listsFit, roomAt, noLists}
 use Rattle.pending.specs.declared.Room.the-variants.{Unlent}
 use Rattle.execute.specs.Rules.{Rules, obey}
 use Rattle.step.specs.Step.{fetched, Left, left, stepOf, goesOn}
@@ -33,6 +31,7 @@ use Rattle.agreement.proofs.Formed.{Formed, both-true, all-from, formed
 use Rattle.agreement.proofs.Reading.{no-mark, read-held}
 use Rattle.agreement.proofs.Keeping.{inner-step-keeps}
 use Rattle.agreement.proofs.Sized.{sized-after}
+use Rattle.agreement.proofs.Unlent.{none-listed, none-left}
 use Rattle.agreement.proofs.Agree.{instructions-agree}
 
 -- ---- what a run is admitted with
@@ -54,7 +53,7 @@ formed-read R f =
       small = λ n. let t = whole-limbs (valueOf (holds R n)) in rw (read-held R n) (omega arith);
     }
 
-admitted-formed : (k : Mode) (R : Registers) → admits k R ≡ true → wellFormed R ≡ true
+pub admitted-formed : (k : Mode) (R : Registers) → admits k R ≡ true → wellFormed R ≡ true
 unfolding admits
 admitted-formed Plain R e = (both-true _ _ e) .0
 admitted-formed Deferred R e = e
@@ -75,15 +74,6 @@ fetched-agrees : (k : Mode) (R : Rules) (f : Fetched) (w : World) → Sized (w .
 unfolding fetched
 fetched-agrees k R (F.Word x) w z = obey-agrees k R (decodeIn (R .number) x) w z
 fetched-agrees k R (F.Refused r) w z = refl
-
--- with no list lent, none is kept
-none-listed : (cs : List Check) (pc : ℕ) → listing cs pc noLists ≡ noLists
-unfolding roomAt
-none-listed cs pc = unlent-stays cs pc noLists refl
-
-none-left : (k : Mode) (R : Rules) (w : World) → (stepOf k R w noLists) .lists ≡ noLists
-unfolding stepOf
-none-left k R w = none-listed _ (w .pc)
 
 abbrev readLeft : Left → Left
 readLeft s = left (s .went) (readWorld (s .world)) (s .lists)
@@ -110,7 +100,7 @@ loop-agrees zero k R w z = refl
 loop-agrees (suc n) k R w z =
     let s = stepOf k R w noLists in
     following-reads s (loop n k R) (loop n Plain R)
-    (rw (none-left k R w) (loop-agrees n k R (s .world) (inner-step-keeps (λ S. Sized S) k R (sized-after (R .notes) k) w noLists z)))
+    (rw (none-left k R w) (loop-agrees n k R (s .world) (inner-step-keeps (λ w. Sized (w .registers)) k R (sized-after (R .notes) k) w noLists z)))
     ∙ ap (λ (x : Left). following x (loop n Plain R)) (step-agrees k R w z)
 
 -- ---- the run

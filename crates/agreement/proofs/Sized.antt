@@ -37,6 +37,6 @@ sized-sum rd x y b R T z u =
 pub sized-after : (N : Notes) (k : Mode) (room : Room) (i : Instruction) (w : World) → Sized (w .registers) → Sized ((execute k room N i w) .world .registers)
 sized-after N =
     execute-keeps (λ (S : Registers). Sized S) N sized-normalise
-    (λ i v m e R p. sized-put R _ _ _)
     (λ rd x y a b R T. sized-sum rd x y _ R T)
     (λ rd rs1 rs2 R. sized-put R rd _ _)
+    (λ i v m e R p. sized-put R _ _ _)

@@ -39,15 +39,15 @@ module _ (N : Notes) (c : Capped N) where
   formed-execute : (k : Mode) (room : Room) (i : Instruction) (w : World) → Formed (w .registers) → Formed ((execute k room N i w) .world .registers)
   formed-execute =
       execute-keeps Formed N formed-normalise
-      (λ i v m e R p. formed-whole R _ _ _ (effect-bound N c i v m e p))
       (λ rd x y a b R T. formed-sum rd x y _ R T (c .sum a b))
       formed-difference
+      (λ i v m e R p. formed-whole R _ _ _ (effect-bound N c i v m e p))
 
 pub formed-after : InstructionsKeep
 formed-after N c k room i w e = well-formed _ (formed-execute N c k room i w (formed (w .registers) e))
 
 pub formed-after-step : StepsKeep
-formed-after-step R c k = step-keeps (λ S. wellFormed S ≡ true) k R (formed-after (R .notes) c k)
+formed-after-step R c k = step-keeps (λ w. wellFormed (w .registers) ≡ true) k R (formed-after (R .notes) c k)
 
 pub formed-after-run : RunsKeep
-formed-after-run R c k = run-keeps (λ S. wellFormed S ≡ true) k R (formed-after (R .notes) c k)
+formed-after-run R c k = run-keeps (λ w. wellFormed (w .registers) ≡ true) k R (formed-after (R .notes) c k)

@@ -1,4 +1,4 @@
--- A step from what a run takes leaves what a run takes: 9 is tested at its start alone.
+-- A step or run from what a run takes leaves what a run takes: 9 is tested at its start alone.
 use Prim.Native.Nat.{ℕ, zero, suc, _+_, _<_}
 use mathlib.Core.Path.{_≡_, refl}
 use mathlib.Core.Bool.{Bool, true, false, not}
@@ -9,7 +9,7 @@ use native.Mathlib.Omega.{arith}
 use borrow.Author.Tests.{ltb-true, eq-eqb, le-leb}
 use Rattle.state.specs.Held.{Whole, kept, waits}
 use Rattle.state.specs.Registers.{Registers, place, put}
-use Rattle.state.specs.Formed.{allBelow, wellFormed, allWhole}
+use Rattle.state.specs.Formed.{allBelow, allWhole}
 use Rattle.effect.specs.Notes.{Notes}
 use Rattle.instruction.specs.declared.Instruction.{Instruction}
 use Rattle.execute.specs.World.{World}
@@ -21,11 +21,12 @@ use Rattle.pending.specs.Pending.{Lists, lists, Check, listsFit, roomOf, append
 use Rattle.pending.specs.declared.Room.{Room}
 use Rattle.pending.proofs.Lists.{fits-mean}
 use Rattle.step.specs.Step.{stepIn, stepOf}
+use Rattle.run.specs.Run.{run}
 use Rattle.agreement.specs.Keeping.{Capped}
 use Rattle.agreement.specs.Fuel.{takes}
 use Rattle.agreement.proofs.Cases.{cond-case}
 use Rattle.agreement.proofs.Formed.{both-true}
-use Rattle.agreement.proofs.Keeping.{plain-keeps, inner-step-keeps}
+use Rattle.agreement.proofs.Keeping.{plain-keeps, inner-step-keeps, run-keeps}
 use Rattle.agreement.proofs.Sound.{formed-after}
 
 -- ---- the registers
@@ -54,14 +55,19 @@ whole-after : (N : Notes) (room : Room) (i : Instruction) (w : World)
     → allWhole (w .registers .accumulated) ≡ true → allWhole ((execute Plain room N i w) .world .registers .accumulated) ≡ true
 whole-after N = plain-keeps (λ (S : Registers). allWhole (S .accumulated) ≡ true) N (λ i v m e R p. whole-put R (e .rd) (e .value) (e .bound))
 
-admits-kept : (k : Mode) (R : Rules) → Capped (R .notes) → (w : World) (l : Lists)
-    → admits k (w .registers) ≡ true → admits k ((stepOf k R w l) .world .registers) ≡ true
+admits-after : (N : Notes) → Capped N → (k : Mode) (room : Room) (i : Instruction) (w : World)
+    → admits k (w .registers) ≡ true → admits k ((execute k room N i w) .world .registers) ≡ true
 unfolding admits
-admits-kept Plain R c w l e =
+admits-after N c Plain room i w e =
     let t = both-true _ _ e in
-    rw (inner-step-keeps (λ S. wellFormed S ≡ true) Plain R (formed-after (R .notes) c Plain) w l (t .0))
-    (inner-step-keeps (λ S. allWhole (S .accumulated) ≡ true) Plain R (whole-after (R .notes)) w l (t .1))
-admits-kept Deferred R c w l e = inner-step-keeps (λ S. wellFormed S ≡ true) Deferred R (formed-after (R .notes) c Deferred) w l e
+    rw (formed-after N c Plain room i w (t .0)) (whole-after N room i w (t .1))
+admits-after N c Deferred room i w e = formed-after N c Deferred room i w e
+
+abbrev Admitted : Mode → World → Type 0
+Admitted k w = admits k (w .registers) ≡ true
+
+pub admits-after-run : (R : Rules) → Capped (R .notes) → (k : Mode) (fuel : ℕ) (w : World) (l : Lists) → Admitted k w → Admitted k ((run k R fuel w l) .world)
+admits-after-run R c k = run-keeps (Admitted k) k R (admits-after (R .notes) c k)
 
 -- ---- the lists
 -- one more entry, where there is a place for it
@@ -88,4 +94,4 @@ pub takes-kept : (k : Mode) (R : Rules) → Capped (R .notes) → (w : World) (l
 unfolding stepOf
 takes-kept k R c w l e =
     let t = both-true _ _ e in
-    rw (admits-kept k R c w l (t .0)) (listing-fits ((stepIn k (roomOf l) R w) .checks) (w .pc) l (t .1))
+    rw (inner-step-keeps (Admitted k) k R (admits-after (R .notes) c k) w l (t .0)) (listing-fits ((stepIn k (roomOf l) R w) .checks) (w .pc) l (t .1))

@@ -19,6 +19,8 @@ use Rattle.pending.specs.Pending.{Lists}
 use Rattle.execute.specs.World.{World, Stepped}
 use Rattle.execute.specs.declared.Went.the-variants as W
 use Rattle.step.specs.Step.{Left}
+use Rattle.layout.specs.Shape.{Shaped}
+use Rattle.host.specs.Call.{stateOf}
 
 -- "Bounds are notes of 0 to 64 bits, capped at 64": of the notes that are written
 pub record Capped (N : Notes) : Type 0 where
@@ -34,6 +36,11 @@ pub record Capped (N : Notes) : Type 0 where
 -- every limb of every register is below 2^30; registers are numbered modulo 16
 abbrev pub SmallLimbs : Registers → Type 0
 SmallLimbs R = (n : ℕ) → (lowOf (holds R n) < 2 ^ 30) × (highOf (holds R n) < 2 ^ 30)
+
+-- what every world of the code is: sixteen registers and a pc in numbers of 64 bits, bounds in 8, and memory in bytes
+pub record InBits (w : World) : Type 0 where
+  pub state : Shaped (stateOf w)
+  pub bytes : (k : ℕ) → getD (w .memory) k 0 < 2 ^ 8
 
 -- a step that is refused leaves the world and the lists as they were
 abbrev pub Restores : Left → World → Lists → Type 0

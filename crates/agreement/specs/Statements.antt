@@ -4,6 +4,7 @@ use mathlib.Core.Path.{_≡_}
 use mathlib.Core.Logic.{_≢_}
 use mathlib.Core.Bool.{Bool, true, false, cond}
 use mathlib.Core.List.{List}
+use lib.ListN.{length}
 use contract.Lifetimes.{Lfts}
 use denote.Triple.Entry.{Args}
 use borrow.Fn.Kinds.{GoodsP}
@@ -41,7 +42,7 @@ use Rattle.agreement.specs.Reading.{readWorld, unchecked, readStep, read
 use Rattle.agreement.specs.Contracts.{Leaves, Allows, toldBy, worldGiven, fuelGiven, listsGiven, ranTo, callGiven, modeGiven, calledTo}
 use Rattle.agreement.specs.Contracts.{worldStepped, listsStepped, steppedTo, worldExecuted, executedTo}
 use Rattle.agreement.specs.ByHand.{Says, steps, recordsGiven, recordsAfter, stepsInPlace, placeGiven, placeAfter, stepsLent, lentGiven, lentAfter}
-use Rattle.agreement.specs.Keeping.{Capped, SmallLimbs, Restores, Undoes, Normalised, NormalisedBy}
+use Rattle.agreement.specs.Keeping.{Capped, SmallLimbs, InBits, Restores, Undoes, Normalised, NormalisedBy}
 use Rattle.agreement.specs.Fuel.{BySteps, continued}
 
 -- For every memory, fuel and state with no accumulated register, and no list lent, the plain and the deferred run agree on the stop with its
@@ -147,6 +148,18 @@ RunCallsKeepLimbs =
     (k : Mode) (κs : Lfts 4) (a : Args run_plain.signature κs) (x : Leaves run_plain.ended κs a) → Allows run_plain.ended (toldBy k) κs a x
     → wellFormed (worldGiven κs a .registers) ≡ true
     → let after = registersOf (x .0 .state) in (wellFormed after ≡ true) × SmallLimbs after
+
+-- Numbers stay what the code can hold: 64 bits in registers and pc, bytes in memory. So a state's bytes hold all of it.
+abbrev pub StepsStayInBits : Type 0
+StepsStayInBits = (R : Rules) → Capped (R .notes) → (k : Mode) (w : World) (l : Lists) → InBits w → InBits ((step k R w l) .world)
+
+abbrev pub RunsStayInBits : Type 0
+RunsStayInBits =
+    (R : Rules) → Capped (R .notes) → (k : Mode) (fuel : ℕ) (w : World) (l : Lists) → InBits w → InBits ((run k R fuel w l) .world)
+
+-- Memory keeps its length.
+abbrev pub RunsKeepLength : Type 0
+RunsKeepLength = (R : Rules) (k : Mode) (fuel : ℕ) (w : World) (l : Lists) → length ((run k R fuel w l) .world .memory) ≡ length (w .memory)
 
 -- "A refused step restores even normalised sources": registers, limbs, bounds, pc, mark, memory and lists are as they were, in either mode,
 -- with lists or without, under any rules. The same of an instruction, and of one that is given.

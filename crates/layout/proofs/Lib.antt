@@ -4,3 +4,4 @@ pub mod Stored
 pub mod Tests
 pub mod Contents
 pub mod Round
+pub mod Shape

@@ -3,6 +3,7 @@ use Prim.Native.Nat.{ℕ, zero, suc, _+_, _*_, _/_, _%_, _^_, _<_, _≤_}
 use mathlib.Core.Path.{_≡_, refl}
 use mathlib.Core.Bool.{Bool, true, false, _&&_}
 use mathlib.Core.List.{List, [], _∷_, _++_}
+use native.Mathlib.Nat.{pow-suc}
 use native.Mathlib.Omega.{arith}
 use lib.Dec.{ltb, leb, eqb, lit<}
 use borrow.Author.Tests.{lt-ltb, le-ltb, leb-true, leb-false, eqb-true, eqb-false}
@@ -35,13 +36,15 @@ one-more n b at = rw (← drop-drop 1 at b) (by (drop at b))
     by [] = rw (none n)
     by (x ∷ l) = omega arith
 
-byte-small : (b : List ℕ) (at : ℕ) → Small b → numberAt 1 b at < 256
+-- n bytes are below 256 ^ n
+pub number-below : (n : ℕ) (b : List ℕ) (at : ℕ) → Small b → numberAt n b at < 256 ^ n
 unfolding numberOfBytes
-byte-small b at small = by (drop at b) (λ k. rw getD-drop (small (at + k)))
+number-below n b at small = by n (drop at b) (λ k. rw getD-drop (small (at + k)))
   where
-    by : (l : List ℕ) → Small l → numberOfBytes (take 1 l) < 256
-    by [] low = lit< tt
-    by (x ∷ l) low = omega (arith, low 0)
+    by : (n : ℕ) (l : List ℕ) → Small l → numberOfBytes (take n l) < 256 ^ n
+    by zero l low = lit< tt
+    by (suc n) [] low = rw (pow-suc 256 n) (omega (arith, by n [] low))
+    by (suc n) (x ∷ l) low = rw (pow-suc 256 n) (omega (arith, low 0, by n l (λ k. low (suc k))))
 
 -- kind, bound and zeros in one number of eight bytes
 pub head-apart : (b : List ℕ) (at : ℕ) → Small b
@@ -50,8 +53,8 @@ head-apart b at small =
     let e : at + 1 + 1 ≡ at + 2 = omega arith in
     let above : numberAt 7 b (at + 1) ≡ numberAt 6 b (at + 2) * 256 + numberAt 1 b (at + 1) = rw e at (one-more 6 b (at + 1)) in
     let whole = one-more 7 b at in
-    let kind = byte-small b at small in
-    let bound = byte-small b (at + 1) small in
+    let kind = number-below 1 b at small in
+    let bound = number-below 1 b (at + 1) small in
     (omega arith, omega arith, omega arith)
 
 -- the mark and its zeros are as laid down if they are a number below 2

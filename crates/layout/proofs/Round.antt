@@ -17,6 +17,7 @@ use Rattle.state.specs.Formed.{limbsFit, registerFits, zeroFits, allBelow, well
 use Rattle.state.specs.declared.State.{State}
 use Rattle.state.proofs.Normal.{kept-held}
 use Rattle.layout.specs.Layout.{HEADER_BYTES, RECORD_BYTES, STATE_BYTES, headerBytes, kindOf, firstOf, secondOf, recordBytes, records, stateBytes, recordAt, kindIn, boundIn, zerosIn, firstIn, secondIn, heldIn, stateIn, numbersFit, recordLaid, wellLaid, admissible}
+use Rattle.layout.specs.Shape.{Shaped}
 use Rattle.layout.proofs.Rows.{table-at, table-of}
 use Rattle.memory.proofs.Numbers.{Small, number-bytes}
 use Rattle.layout.proofs.Numbers.{read-next}
@@ -119,15 +120,6 @@ records-from n i (suc k) R =
     let e : i + suc k ≡ i + 1 + k = omega arith in
     rw (z, d, e) (drop-append-add r (records (k + n) (i + 1) R) (RECORD_BYTES * k) ∙ records-from n (i + 1) k R)
 
--- what a state of the program is: sixteen registers, in numbers of 64 and of 8 bits
-pub record Shaped (s : State) : Type 0 where
-  pub pc-fits : s .pc < 2 ^ 64
-  pub regs-long : length (s .regs) ≡ 16
-  pub accumulated-long : length (s .accumulated) ≡ 16
-  pub bounds-long : length (s .bounds) ≡ 16
-  pub reg-fits : (k : ℕ) → getD (s .regs) k 0 < 2 ^ 64
-  pub bound-fits : (k : ℕ) → getD (s .bounds) k 0 < 2 ^ 8
-
 -- written, then read
 module _ (s : State) (shape : Shaped s) (limbs : (i : ℕ) → i < 16 → limbsFit (holds (registersOf s) i) ≡ true) where
   -- a number of register i's record, at its place among the state's bytes
@@ -208,7 +200,7 @@ module _ (s : State) (shape : Shaped s) (limbs : (i : ℕ) → i < 16 → limbsF
   written-laid = rw (length-state s, mark-read, le-leb _ _ (mark-small (s .halted)), zeros-read) (all-of (recordLaid (stateBytes s)) 16 laid-read)
 
 module _ (s : State) (shape : Shaped s) (formed : wellFormed (registersOf s) ≡ true) where
-  limbs-fit : (i : ℕ) → i < 16 → limbsFit (holds (registersOf s) i) ≡ true
+  pub limbs-fit : (i : ℕ) → i < 16 → limbsFit (holds (registersOf s) i) ≡ true
   unfolding wellFormed registerFits
   limbs-fit i h =
       let all = both (zeroFits (registersOf s)) (allBelow (registerFits (registersOf s)) 16) formed .1 in

@@ -13,13 +13,13 @@ module _ {A : Type 0} where
   sets-next l at next [] ys e = let same : next ≡ at = omega arith in rw same
   sets-next l at next (x ∷ xs) ys e = sets-next (set l at x) (suc at) next xs ys (omega arith)
 
-  sets-all : (l vs : List A) → length l ≡ length vs → sets l 0 vs ≡ vs
+  pub sets-all : (l vs : List A) → length l ≡ length vs → sets l 0 vs ≡ vs
   sets-all l vs h =
       let room : 0 + length vs ≤ length l = omega arith in
       let none : drop (0 + length vs) l ≡ [] = drop-of-length-le l {i = 0 + length vs} (omega arith) in
       sets-eq vs l 0 room ∙ rw none (append-nil vs)
 
-  length-table : (n i : ℕ) (f : ℕ → A) → length (table n i f) ≡ n
+  pub length-table : (n i : ℕ) (f : ℕ → A) → length (table n i f) ≡ n
   unfolding table
   length-table zero i f = refl
   length-table (suc n) i f = ap suc (length-table n (i + 1) f)
