@@ -34,6 +34,9 @@ use Rattle.lines.proofs as lines
 use Rattle.printing.proofs as printing
 use Rattle.programs.proofs as programs
 use Rattle.text.proofs as text
+use Rattle.checkpoint.proofs as checkpoint
+use Rattle.checkpoint.proofs.Laws.{reads-one}
+use Rattle.checkpoint.specs.Calls.{Wrote}
 use Rattle.state.specs.Registers.{Registers}
 use Rattle.deferred.specs.Limbs.{Limbed}
 use Rattle.execute.specs.World.{Stepped}
@@ -47,7 +50,7 @@ use Rattle.machines.specs.Machine.{GivenCall, MachineCall}
 use Rattle.promises.specs.Determined.{Determined}
 use Rattle.effect.specs.declared.registers.Deed.{Deed}
 use Rattle.effect.specs.declared.immediate.Turn.{Turn}
-use Rattle.promises.proofs.Laws.{one, two, _&_}
+use Rattle.promises.proofs.Laws.{one, two, three, _&_}
 use Rattle.promises.proofs.Asked.{asked}
 use Rattle.promises.proofs.Tables.{one-deed, one-turn, one-shift}
 use Rattle.promises.proofs.Texts.{one-read, one-said, one-left}
@@ -386,6 +389,9 @@ layout·reading·read-state κs a x y = one (λ r. r & x .1)
 
 pub layout·laid·well-laid : Determined layout.laid.well_laid.ended layout.laid.well_laid.Reads.Learnt
 layout·laid·well-laid κs a x y = one (λ r. r & x .1)
+
+pub layout·laid·is-admissible : Determined layout.laid.is_admissible.ended layout.laid.is_admissible.Reads.Learnt
+layout·laid·is-admissible κs a x y = one (λ r. r & x .1)
 
 -- ---- effect
 pub effect·branch·taken : Determined effect.branch.taken.ended effect.branch.taken.Reads.Learnt
@@ -734,3 +740,11 @@ text·zkir-assemble κs a x y = one-left (now (a .0)) (now (a .1 .0)) (now (a .1
 
 pub text·zkir-print : Determined text.zkir_print.ended text.zkir_print.Reads.Learnt
 text·zkir-print κs a x y = two (λ r m. r & tt & m & x .1 .1 .1)
+
+-- ---- checkpoint
+pub checkpoint·zkir-checkpoint-write : Determined checkpoint.zkir_checkpoint_write.ended checkpoint.zkir_checkpoint_write.Reads.Learnt
+checkpoint·zkir-checkpoint-write κs a x y = one (λ (w : Wrote). w .told & tt & tt & w .image & x .1 .1 .1 .1)
+
+pub checkpoint·zkir-checkpoint-read : Determined checkpoint.zkir_checkpoint_read.ended checkpoint.zkir_checkpoint_read.Reads.Learnt
+checkpoint·zkir-checkpoint-read κs a x y p q =
+    three (λ t s m. t & tt & s & m & x .1 .1 .1 .1) (reads-one (now (a .0)) (now (a .1 .0)) (now (a .1 .1 .0)) p q)

@@ -1,0 +1,5 @@
+pub mod Image
+pub mod Calls
+pub mod Pages
+pub mod Tests
+pub mod Statements
