@@ -1,0 +1,3 @@
+pub mod Continued
+pub mod Resumed
+pub mod Calls
