@@ -1,9 +1,10 @@
-// Finds or makes the archives that export the run, the step and the calls over texts, copies them into OUT_DIR, and links them.
+// Finds or makes the archives of archives.txt, copies them into OUT_DIR, and links them: the run's, and those whose
+// feature is on.
 //
-// ZKIR_ARCHIVE names the run's, ZKIR_STEP_ARCHIVE the step's, ZKIR_TEXT_ARCHIVE the texts'; a relative path counts from the
-// folder above this package. One that isn't named is taken from the folder `lib` there, which a distribution has
-// (tools/dist). In the repository tools/archives makes it, in the repository's target/ and not in OUT_DIR: a proof takes
-// long, and its archive serves every profile. It is made again only where a source of it has changed.
+// A variable may name an archive; a relative path counts from the folder above this package. One that isn't named is taken
+// from the folder `lib` there, which a distribution has (tools/dist). In the repository tools/archives makes it, in the
+// repository's target/ and not in OUT_DIR: a proof takes long, and its archive serves every profile. It is made again only
+// where a source of it has changed.
 
 use std::env;
 use std::fs;
@@ -11,28 +12,40 @@ use std::path::{Path, PathBuf};
 use std::process::{exit, Command};
 use std::time::Instant;
 
-/// An archive: its name in a distribution, the calls that it exports, the crate that it is made from, and the variable
-/// that may name it.
+/// A line of archives.txt.
 struct Archive {
-    name: &'static str,
-    exports: &'static str,
+    /// The crate that it is made from.
     of: &'static str,
+    /// Its name in a distribution.
+    name: &'static str,
+    /// What may name another file.
     variable: &'static str,
+    feature: &'static str,
+    exports: String,
 }
 
-const RUN: Archive = Archive { name: "zkir_run", exports: "zkir_run", of: "host", variable: "ZKIR_ARCHIVE" };
-const STEP: Archive = Archive { name: "zkir_step", exports: "zkir_step", of: "lent", variable: "ZKIR_STEP_ARCHIVE" };
-const TEXT: Archive =
-    Archive { name: "zkir_text", exports: "zkir_assemble and zkir_print", of: "text", variable: "ZKIR_TEXT_ARCHIVE" };
+impl Archive {
+    fn of_line(line: &'static str) -> Archive {
+        match line.split_whitespace().collect::<Vec<_>>()[..] {
+            [of, name, variable, feature, ref calls @ ..] => {
+                Archive { of, name, variable, feature, exports: calls.join(" and ") }
+            }
+            _ => fail(&format!("archives.txt: {line}: no archive")),
+        }
+    }
+
+    fn is_wanted(&self) -> bool {
+        self.feature == "-" || env::var_os(format!("CARGO_FEATURE_{}", self.feature.to_uppercase())).is_some()
+    }
+}
 
 fn main() {
     println!("cargo:rerun-if-changed=build.rs");
+    println!("cargo:rerun-if-changed=archives.txt");
     let above = Path::new(&variable("CARGO_MANIFEST_DIR")).join("..");
-    link(&RUN, &found(&RUN, &above));
-    for (feature, archive) in [("CARGO_FEATURE_STEP", &STEP), ("CARGO_FEATURE_TEXT", &TEXT)] {
-        if env::var_os(feature).is_some() {
-            link(archive, &found(archive, &above));
-        }
+    let lines = include_str!("archives.txt").lines().filter(|line| !line.starts_with('#'));
+    for archive in lines.map(Archive::of_line).filter(Archive::is_wanted) {
+        link(&archive, &found(&archive, &above));
     }
 }
 

@@ -1,12 +1,12 @@
-/* The host's calls of the proved zkIR core, a run, a single step, an assembler and a printer, and what a host needs around
- * them.
+/* The host's calls of the proved zkIR core, a run, a single step, an assembler and a printer, and what writes and reads
+ * checkpoints, with what a host needs around them.
  *
- * The run is in libzkir_run.a, the step in libzkir_step.a, assembler and printer in libzkir_text.a, as a distribution has them
- * (tools/dist); in the repository `rt staticlib host`, `rt staticlib lent` and `rt staticlib text` make them as libhost.a,
- * liblent.a and libtext.a. An archive calls nothing but memcpy, or another of what a compiler calls by itself: memmove,
- * memset, memcmp. It needs no heap, no file and no thread.
+ * The run is in libzkir_run.a, the step in libzkir_step.a, assembler and printer in libzkir_text.a, the calls for
+ * checkpoints in libzkir_checkpoint.a, as a distribution has them (tools/dist); in the repository `rt staticlib` makes
+ * them, of the crates host, lent, text and checkpoint, as libhost.a and so on. An archive calls nothing but memcpy, or
+ * another of what a compiler calls by itself: memmove, memset, memcmp. It needs no heap, no file and no thread.
  *
- * examples/host.c is a whole host. */
+ * examples/host.c is a whole host, examples/checkpoint.c breaks a run off and goes on. */
 #ifndef ZKIR_H
 #define ZKIR_H
 
@@ -48,6 +48,7 @@ extern "C" {
 #define ZKIR_LIST_FULL 8     /* pc; zkir_run lends no list and never answers it */
 #define ZKIR_MALFORMED 9     /* an argument is malformed */
 #define ZKIR_BAD_LINE 10     /* line, the first bad one of a text; no run or step answers it */
+#define ZKIR_BAD_IMAGE 11    /* the image breaks a rule, or has no room; no run or step answers it */
 #define ZKIR_EBREAK 64       /* the state is halted, its pc at the Ebreak */
 #define ZKIR_ECALL 65        /* the pc is behind the Ecall */
 
@@ -139,6 +140,7 @@ static inline const char *zkir_words(uint64_t code) {
     case ZKIR_LIST_FULL: return "the instruction needs a check, and the list of pending checks is full";
     case ZKIR_MALFORMED: return "an argument is malformed";
     case ZKIR_BAD_LINE: return "the text has a bad line";
+    case ZKIR_BAD_IMAGE: return "the image breaks a rule of checkpoints, or has no room for one";
     case ZKIR_EBREAK: return "the program stopped by itself";
     case ZKIR_ECALL: return "the program asks its host for a service";
     default: return "no code";
@@ -190,14 +192,15 @@ struct zkir_stepped {
 struct zkir_stepped zkir_step(struct zkir_lent *state, uint8_t *memory, size_t memory_length, struct zkir_pending *list,
                               size_t list_length, size_t count, uint64_t mode);
 
-/* ---- Programs as texts, in the language of docs/LANGUAGE.md. */
-
-/* What these calls answer: code 0 and the bytes written; or a refusal, with its particular, and the length 0. */
+/* What the calls below answer: code 0 and the bytes written, 0 of a checkpoint that is read; or a refusal, with its particular,
+ * and the length 0. */
 struct zkir_told {
     uint64_t code;
     uint64_t particular;
     uint64_t length;
 };
+
+/* ---- Programs as texts, in the language of docs/LANGUAGE.md. */
 
 /* Room that always suffices: for the words, 4 bytes a line; for labels, 3 numbers a colon; for a print, 22 bytes a word, which
  * are those of "Addi R15, R15, -65536" and its LF. */
@@ -238,6 +241,48 @@ static inline size_t zkir_words_needed(const uint8_t *text, size_t text_length) 
 
 static inline size_t zkir_labels_needed(const uint8_t *text, size_t text_length) {
     return ZKIR_LABEL_NUMBERS * zkir_count(text, text_length, ':');
+}
+
+/* ---- Checkpoints: a state and its memory as an image, from which the run goes on elsewhere. docs/MACHINE.md has its bytes. */
+
+/* Memory is a multiple of a page, 0 too, and at most sixteen pages. An image holds the pages that have a nonzero byte. */
+#define ZKIR_PAGE_BYTES 4096
+#define ZKIR_MOST_MEMORY_BYTES 65536
+#define ZKIR_IMAGE_BYTES(pages) (416 + (size_t)4116 * (pages))
+#define ZKIR_MOST_IMAGE_BYTES 66272
+
+/* Puts the image of the state's 400 bytes and the memory into the front of `image`; the bytes behind it stay. The length is the
+ * image's.
+ *
+ * Refused are, in this order: a memory of another length, or bytes that are no state's (9), too short an `image` (11). Then
+ * `image` stays as it was.
+ *
+ * `image` overlaps neither of the others, and no pointer is null, even if its length is 0. Nothing is kept after the call. */
+struct zkir_told zkir_checkpoint_write(const uint8_t *state, size_t state_length, const uint8_t *memory,
+                                       size_t memory_length, uint8_t *image, size_t image_length);
+
+/* The state's 400 bytes and the memory become those whose image this is, to its last byte; pages that it doesn't hold become
+ * zeros. The length is 0. With memory of the same length a run then goes on, in the same mode, as it would have gone on; the
+ * image does not hold that length.
+ *
+ * Refused are, in this order: a memory or a state of another length (9), bytes that are the image of no state and memory of that
+ * length (11). Then state and memory stay as they were.
+ *
+ * What is lent does not overlap, and no pointer is null, even if its length is 0. Nothing is kept after the call. */
+struct zkir_told zkir_checkpoint_read(const uint8_t *image, size_t image_length, uint8_t *state, size_t state_length,
+                                      uint8_t *memory, size_t memory_length);
+
+/* Whether the page at that address has a nonzero byte. */
+static inline int zkir_is_held(const uint8_t *memory, size_t address) {
+    return zkir_count(memory + address, ZKIR_PAGE_BYTES, 0) < ZKIR_PAGE_BYTES;
+}
+
+/* The bytes of the image of a memory that has whole pages. */
+static inline size_t zkir_image_needed(const uint8_t *memory, size_t memory_length) {
+    size_t pages = 0;
+    for (size_t address = 0; address < memory_length; address += ZKIR_PAGE_BYTES)
+        pages += zkir_is_held(memory, address) != 0;
+    return ZKIR_IMAGE_BYTES(pages);
 }
 
 #ifdef __cplusplus

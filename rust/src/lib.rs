@@ -1,8 +1,9 @@
-//! The proved zkIR core for Rust hosts: the state of the machine, its run with fuel over lent memory, single steps, and
-//! programs as texts.
+//! The proved zkIR core for Rust hosts: the state of the machine, its run with fuel over lent memory, single steps,
+//! programs as texts, and checkpoints.
 //!
-//! Run, step, assembler and printer are Rattle, proved, and linked as static libraries. Here is what makes them comfortable
-//! in Rust: types that cannot be malformed, and answers that say what happened.
+//! Run, step, assembler, printer, and what writes and reads checkpoints are Rattle, proved, and linked as static
+//! libraries. Here is what makes them comfortable in Rust: types that cannot be malformed, and answers that say what
+//! happened.
 //!
 //! ```
 //! use yokeglimmer::{run, Mode, Register, State, Stop};
@@ -66,15 +67,46 @@
 //! assert_eq!(bad.to_string(), "line 2: End: there is no instruction of this name (column 1: End)");
 //! # Ok::<(), Box<dyn std::error::Error>>(())
 //! ```
+//!
+//! A run can be broken off, kept as bytes, and gone on with elsewhere:
+//!
+//! ```
+//! use yokeglimmer::{assemble, run, Checkpoint, Mode, State, Stop};
+//!
+//! let words = assemble("Addi R1, R0, 10\nagain:\nAdd R2, R2, R1\nAddi R1, R1, -1\nBne R1, R0, again\nEbreak\n")?;
+//! let mut memory: Vec<u8> = words.iter().flat_map(|word| word.to_le_bytes()).collect();
+//! memory.resize(4096, 0); // a checkpoint's memory has whole pages
+//! let mut state = State::new(0);
+//! assert_eq!(run(&mut state, &mut memory, 12, Mode::Deferred).stop, Stop::Fuel);
+//! let image = Checkpoint::write(&state, &memory)?;
+//!
+//! let Checkpoint { mut state, mut memory } = Checkpoint::read(&image, 4096)?;
+//! run(&mut state, &mut memory, 1_000, Mode::Deferred).or_refused()?;
+//! assert_eq!(state.value(2), 55);
+//!
+//! // What is wrong with an image is said in words.
+//! let bad = Checkpoint::read(&image, 0).unwrap_err();
+//! let said = "refused 11: the page at address 0 is beyond the memory's 0 bytes (byte 428 of the image)";
+//! assert_eq!(bad.to_string(), said);
+//! # Ok::<(), Box<dyn std::error::Error>>(())
+//! ```
 #![deny(missing_docs)]
 
 #[cfg(feature = "text")]
 mod assemble;
+#[cfg(feature = "checkpoint")]
+mod bad_checkpoint;
 mod bytes;
+#[cfg(feature = "checkpoint")]
+mod checkpoint;
 #[cfg(feature = "step")]
 mod checks;
+#[cfg(feature = "checkpoint")]
+mod damage;
 #[cfg(feature = "text")]
 mod forms;
+#[cfg(feature = "checkpoint")]
+mod image;
 mod layout;
 #[cfg(feature = "text")]
 mod lines;
@@ -95,13 +127,21 @@ mod state;
 #[cfg(feature = "step")]
 mod step;
 mod stop;
-#[cfg(feature = "text")]
+#[cfg(any(feature = "text", feature = "checkpoint"))]
 mod told;
 
 #[cfg(feature = "text")]
 pub use assemble::{assemble, BadLine};
+#[cfg(feature = "checkpoint")]
+pub use bad_checkpoint::{BadCheckpoint, WrongMemory};
+#[cfg(feature = "checkpoint")]
+pub use checkpoint::Checkpoint;
 #[cfg(feature = "step")]
 pub use checks::Checks;
+#[cfg(feature = "checkpoint")]
+pub use damage::Damage;
+#[cfg(feature = "checkpoint")]
+pub use image::{MOST_IMAGE_BYTES, MOST_MEMORY_BYTES, PAGE_BYTES};
 pub use layout::{ANSWER_BYTES, REGISTERS, STATE_BYTES};
 #[cfg(feature = "text")]
 pub use mistake::Mistake;

@@ -32,7 +32,8 @@ pub struct Dropped;
 ///     match refusal {
 ///         DivisorZero { .. } => true,
 ///         Beyond { .. } | Misaligned { .. } | BadOpcode { .. } | UnusedBits { .. } => false,
-///         PcMisaligned { .. } | PcBeyond { .. } | ListFull { .. } | Malformed | BadLine { .. } => false,
+///         PcMisaligned { .. } | PcBeyond { .. } | ListFull { .. } | Malformed => false,
+///         BadLine { .. } | BadImage => false,
 ///     }
 /// }
 /// ```

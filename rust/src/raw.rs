@@ -3,7 +3,7 @@
 
 #[cfg(feature = "step")]
 pub use crate::record::{Lent, Pending, StepAnswer};
-#[cfg(feature = "text")]
+#[cfg(any(feature = "text", feature = "checkpoint"))]
 pub use crate::told::Told;
 
 /// As Rattle's `extern "C"` has them: a slice is a pointer and a length, a record that is lent is a pointer.
@@ -43,6 +43,26 @@ mod archive {
 
         #[cfg(feature = "text")]
         pub fn zkir_print(words: *const u8, words_length: usize, text: *mut u8, text_length: usize) -> super::Told;
+
+        #[cfg(feature = "checkpoint")]
+        pub fn zkir_checkpoint_write(
+            state: *const u8,
+            state_length: usize,
+            memory: *const u8,
+            memory_length: usize,
+            image: *mut u8,
+            image_length: usize,
+        ) -> super::Told;
+
+        #[cfg(feature = "checkpoint")]
+        pub fn zkir_checkpoint_read(
+            image: *const u8,
+            image_length: usize,
+            state: *mut u8,
+            state_length: usize,
+            memory: *mut u8,
+            memory_length: usize,
+        ) -> super::Told;
     }
 }
 
@@ -149,4 +169,72 @@ pub fn print(words: &[u8], text: &mut [u8]) -> Told {
     // SAFETY: the call is proved for any two slices that are lent apart from each other, empty ones too, keeps none of them
     // and doesn't write to the first; `&` and `&mut` lend them so.
     unsafe { archive::zkir_print(words.as_ptr(), words.len(), text.as_mut_ptr(), text.len()) }
+}
+
+/// `zkir_checkpoint_write`: the image of the state's bytes and the memory, into the front of `image`; the bytes behind it
+/// stay. docs/MACHINE.md has the bytes of an image.
+///
+/// Every argument is allowed. Refused are, in this order: a memory of a length that is no multiple of 4,096 or over 65,536
+/// and bytes that are no state's (9), too short an `image` (11); then `image` stays as it was.
+/// [`MOST_IMAGE_BYTES`](crate::MOST_IMAGE_BYTES) always suffice.
+///
+/// ```
+/// use yokeglimmer::{raw, State};
+///
+/// let (state, mut memory, mut image) = (State::new(0).to_bytes(), [0; 8192], [0; 4532]);
+/// memory[4096] = 7;
+/// let told = raw::checkpoint_write(&state, &memory, &mut image);
+/// assert_eq!(told, raw::Told { code: 0, particular: 0, length: 4532 });
+/// // two entries, the first of kind 1, at byte 28, with 400 bytes
+/// assert_eq!(image[..16], [2, 0, 0, 0, 1, 0, 0, 0, 28, 0, 0, 0, 144, 1, 0, 0]);
+/// assert_eq!(raw::checkpoint_write(&state, &memory, &mut image[..4531]).code, 11);
+/// ```
+#[cfg(feature = "checkpoint")]
+pub fn checkpoint_write(state: &[u8], memory: &[u8], image: &mut [u8]) -> Told {
+    // SAFETY: the call is proved for any three slices of which the last is lent apart from the others, empty ones too,
+    // keeps none of them and writes to the last alone; `&` and `&mut` lend them so.
+    unsafe {
+        archive::zkir_checkpoint_write(
+            state.as_ptr(),
+            state.len(),
+            memory.as_ptr(),
+            memory.len(),
+            image.as_mut_ptr(),
+            image.len(),
+        )
+    }
+}
+
+/// `zkir_checkpoint_read`: the state's bytes and the memory become those whose image this is, to its last byte. The length
+/// that is told is 0.
+///
+/// Every argument is allowed. Refused are, in this order: a memory of a length as above and a `state` of another length
+/// than 400 (9), bytes that are the image of no state and memory of that length (11). Then state and memory stay as they
+/// were.
+///
+/// ```
+/// use yokeglimmer::{raw, State, MOST_IMAGE_BYTES};
+///
+/// let mut image = [0; MOST_IMAGE_BYTES];
+/// let length = raw::checkpoint_write(&State::new(12).to_bytes(), &[7; 4096], &mut image).length as usize;
+/// let (mut state, mut memory) = ([0; 400], [0; 4096]);
+/// let told = raw::checkpoint_read(&image[..length], &mut state, &mut memory);
+/// assert_eq!(told, raw::Told { code: 0, particular: 0, length: 0 });
+/// assert_eq!((state, memory), (State::new(12).to_bytes(), [7; 4096]));
+/// assert_eq!(raw::checkpoint_read(&image, &mut state, &mut memory).code, 11); // bytes behind the image
+/// ```
+#[cfg(feature = "checkpoint")]
+pub fn checkpoint_read(image: &[u8], state: &mut [u8], memory: &mut [u8]) -> Told {
+    // SAFETY: the call is proved for any three slices that are lent apart from each other, empty ones too, keeps none of
+    // them and doesn't write to the first; `&` and `&mut` lend them so.
+    unsafe {
+        archive::zkir_checkpoint_read(
+            image.as_ptr(),
+            image.len(),
+            state.as_mut_ptr(),
+            state.len(),
+            memory.as_mut_ptr(),
+            memory.len(),
+        )
+    }
 }

@@ -34,14 +34,17 @@ pub enum Refusal {
     PcBeyond { pc: u64 },
     /// A check is needed and the list lent for it is full. [`run`](crate::run) lends none, so only a step answers this.
     ListFull { pc: u64 },
-    /// An argument is malformed. From [`run`](crate::run) or a step: it is plain and a register is accumulated.
+    /// An argument is malformed. From [`run`](crate::run) or a step: it is plain and a register is accumulated. For a
+    /// checkpoint: its memory has a length that none has.
     Malformed,
     /// The text has a bad line, the first of which is named, counted from 1. No step or run answers this.
     BadLine { line: u64 },
+    /// The image breaks a rule of checkpoints, or has no room for one. No step or run answers this.
+    BadImage,
 }
 
 impl Refusal {
-    /// 1 to 10.
+    /// 1 to 11.
     ///
     /// ```
     /// assert_eq!(yokeglimmer::Refusal::Misaligned { address: 7 }.number(), 3);
@@ -58,6 +61,7 @@ impl Refusal {
             Refusal::ListFull { .. } => 8,
             Refusal::Malformed => 9,
             Refusal::BadLine { .. } => 10,
+            Refusal::BadImage => 11,
         }
     }
 
@@ -75,7 +79,7 @@ impl Refusal {
             Refusal::Beyond { missing, .. } => missing,
             Refusal::Misaligned { address } => address,
             Refusal::BadOpcode { word } | Refusal::UnusedBits { word } => word.into(),
-            Refusal::Malformed => 0,
+            Refusal::Malformed | Refusal::BadImage => 0,
             Refusal::BadLine { line } => line,
         }
     }
@@ -129,6 +133,7 @@ impl fmt::Display for Refusal {
             }
             Refusal::Malformed => write!(f, "an argument is malformed"),
             Refusal::BadLine { line } => write!(f, "the text has a bad line (line {line})"),
+            Refusal::BadImage => write!(f, "the image breaks a rule of checkpoints, or has no room for one"),
         }
     }
 }

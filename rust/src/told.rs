@@ -1,6 +1,8 @@
-//! What a call over texts answers, as a record of numbers.
+//! What a call over texts or images answers, as a record of numbers.
 
-/// What [`raw::assemble`](crate::raw::assemble) and [`raw::print`](crate::raw::print) answer.
+/// What [`raw::assemble`](crate::raw::assemble), [`raw::print`](crate::raw::print),
+/// [`raw::checkpoint_write`](crate::raw::checkpoint_write) and [`raw::checkpoint_read`](crate::raw::checkpoint_read)
+/// answer.
 ///
 /// ```
 /// use yokeglimmer::raw;
@@ -16,6 +18,6 @@ pub struct Told {
     pub code: u64,
     /// The line or the word that a refusal names, else 0.
     pub particular: u64,
-    /// The bytes written, 0 where it is refused.
+    /// The bytes written of words, of a text or of an image; 0 where it is refused, and of a read image.
     pub length: u64,
 }

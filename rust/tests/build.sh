@@ -1,11 +1,13 @@
 #!/usr/bin/env bash
-# build.sh RUN STEP TEXT: how a host builds the crate, with these three archives: in a workspace of its own; in a copy of the
-# repository, where a stand-in for tools/native hands the archives out and counts how often it is asked. Called by rust/check.
+# build.sh FOLDER: how a host builds the crate, with the archives libCRATE.a of the folder: in a workspace of its own; in a copy of
+# the repository, where a stand-in for tools/native hands the archives out and counts how often it is asked. Called by rust/check.
 set -eu
-run=$(readlink -f "$1") step=$(readlink -f "$2") text=$(readlink -f "$3")
+archives=$(readlink -f "$1")
 rust=$(dirname "$(dirname "$(readlink -f "$0")")")
+count=$(grep -vc '^#' "$rust/archives.txt")
 work=$(mktemp -d)
-unset CARGO_TARGET_DIR
+# shellcheck disable=SC2046
+unset CARGO_TARGET_DIR $(awk '!/^#/ { print $3 }' "$rust/archives.txt")
 trap 'rm -rf "$work"' EXIT
 trap 'exit 130' INT
 trap 'exit 143' HUP TERM
@@ -18,6 +20,12 @@ fail() {
 copy_crate() { # TO
     mkdir -p "$1"
     (cd "$rust" && tar -cf - --exclude=./target .) | tar -xf - -C "$1"
+}
+
+name_archives() { # by the variables of archives.txt
+    while read -r crate _ variable _; do
+        export "$variable=$archives/lib$crate.a"
+    done < <(grep -v '^#' "$rust/archives.txt")
 }
 
 in_a_workspace() {
@@ -42,7 +50,7 @@ fn main() -> Result<(), Box<dyn std::error::Error>> {
     Ok(())
 }
 END
-    said=$(ZKIR_ARCHIVE=$run ZKIR_STEP_ARCHIVE=$step ZKIR_TEXT_ARCHIVE=$text cargo run --offline --quiet) || fail "a host's workspace around the crate"
+    said=$(name_archives && cargo run --offline --quiet) || fail "a host's workspace around the crate"
     [ "$said" = 'plain: ebreak: the program stopped by itself; steps: 1' ] || fail "a host in a workspace says: $said"
 }
 
@@ -53,8 +61,7 @@ echo "\$1" >>"$work/asked"
 cd "$work/repository"
 mkdir -p target/native target/staticlib
 [ ! -f "$work/slow" ] || { echo part >target/native/lib\$1.a && echo part >target/staticlib/lib\$1.a && sleep 60; }
-case \$1 in host) from=$run ;; lent) from=$step ;; *) from=$text ;; esac
-cp "\$from" target/native/lib\$1.a && cp "\$from" target/staticlib/lib\$1.a
+cp "$archives/lib\$1.a" target/native && cp "$archives/lib\$1.a" target/staticlib
 END
     touch -d '1 hour ago' "$work/repository/tools/native"
 }
@@ -73,17 +80,17 @@ in_the_repository() {
     cp -r "$rust/../crates" "$rust/../crates.txt" "$rust/../tools" "$work/repository"
     find "$work/repository" -exec touch -d '1 hour ago' {} +
     stand_in
-    expect_asked 3 "the first time"
+    expect_asked "$count" "the first time"
     grep -q 'warning.*the crate host was proved for its archive, in [0-9]* s' "$work/said" || fail "cargo build does not say that it proves"
     find "$work/repository/rust/target" -path '*/out/libzkir_run.a' | grep -q . || fail "the archive is not copied to OUT_DIR"
-    expect_asked 3 "with nothing changed"
+    expect_asked "$count" "with nothing changed"
     touch "$work/repository/crates/host/edits" "$work/repository"/crates/*/edits/*.edit
-    expect_asked 3 "with edits changed"
+    expect_asked "$count" "with edits changed"
     ! grep -q Compiling "$work/said" || fail "an edit makes cargo build again"
     touch "$work/repository/crates/promises/src/lib.rt"
-    expect_asked 3 "with a crate changed that the archives are not made from"
+    expect_asked "$count" "with a crate changed that the archives are not made from"
     touch "$work/repository/crates/memory/src/lib.rt"
-    expect_asked 6 "with a source changed"
+    expect_asked $((2 * count)) "with a source changed"
 }
 
 at_a_terminal() {

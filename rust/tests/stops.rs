@@ -2,7 +2,7 @@
 
 use yokeglimmer::{run, Mode, Refusal, Refused, State, Stop};
 
-const EVERY: [Stop; 13] = [
+const EVERY: [Stop; 14] = [
     Stop::Fuel,
     Stop::Refused(Refusal::DivisorZero { pc: 8 }),
     Stop::Refused(Refusal::Beyond { missing: 64, length: 62 }),
@@ -14,6 +14,7 @@ const EVERY: [Stop; 13] = [
     Stop::Refused(Refusal::ListFull { pc: 12 }),
     Stop::Refused(Refusal::Malformed),
     Stop::Refused(Refusal::BadLine { line: 3 }),
+    Stop::Refused(Refusal::BadImage),
     Stop::Ebreak,
     Stop::Ecall,
 ];

@@ -61,11 +61,23 @@ static void room_for_texts(void) {
     check(zkir_labels_needed(text, 10) == 9 && zkir_labels_needed(text, 1) == 0, "a text", "numbers for its labels");
 }
 
+static void room_for_images(void) {
+    static uint8_t memory[3 * ZKIR_PAGE_BYTES];
+    check(zkir_image_needed(memory, 0) == 416 && zkir_image_needed(memory, sizeof memory) == 416, "zeros", "bytes of an image");
+    memory[ZKIR_PAGE_BYTES - 1] = 1;
+    check(zkir_image_needed(memory, ZKIR_PAGE_BYTES) == 4532 && zkir_is_held(memory, 0), "a page", "bytes of an image");
+    memory[2 * ZKIR_PAGE_BYTES] = 255;
+    check(zkir_image_needed(memory, sizeof memory) == 8648, "two pages of three", "bytes of an image");
+    check(!zkir_is_held(memory, ZKIR_PAGE_BYTES), "a page of zeros", "hold");
+    check(ZKIR_IMAGE_BYTES(16) == ZKIR_MOST_IMAGE_BYTES, "sixteen pages", "bytes of an image");
+}
+
 int main(void) {
     numbers();
     fresh_state();
     registers();
     both_forms_of_a_state();
     room_for_texts();
+    room_for_images();
     return report();
 }

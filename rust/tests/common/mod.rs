@@ -1,9 +1,12 @@
-//! Words of the machine, built from document 01's fields, and states and programs for the tests.
+//! Words of the machine, built from document 01's fields, and states, programs and images for the tests.
 #![allow(dead_code)] // each test file uses some of it
 
 use std::path::PathBuf;
 
 use yokeglimmer::{Mode, Refusal, Register, State};
+
+/// A page of memory, as images hold it.
+pub const PAGE_BYTES: usize = 4096;
 
 pub const MODES: [Mode; 2] = [Mode::Plain, Mode::Deferred];
 
@@ -135,4 +138,35 @@ pub fn any_state(random: &mut Random) -> State {
         state.set_bound(n, random.below(65) as u8).expect("well-formed");
     }
     state
+}
+
+/// Memory of that many pages: zeros, all drawn, or with one byte that is not zero.
+pub fn any_pages(pages: usize, random: &mut Random) -> Vec<u8> {
+    let mut memory = vec![0; pages * PAGE_BYTES];
+    for page in memory.chunks_mut(PAGE_BYTES) {
+        match random.below(5) {
+            0 => (),
+            1 => page.iter_mut().for_each(|byte| *byte = random.draw() as u8),
+            2 => page[0] = 1,
+            3 => page[PAGE_BYTES - 1] = 128,
+            _ => page[random.below(PAGE_BYTES as u64) as usize] = 1 + random.below(255) as u8,
+        }
+    }
+    memory
+}
+
+/// The image, as docs/MACHINE.md has it.
+pub fn image_of(state: &State, memory: &[u8]) -> Vec<u8> {
+    let pages = (0_u64..).step_by(PAGE_BYTES).zip(memory.chunks(PAGE_BYTES));
+    let held = pages.filter(|(_, page)| *page != [0; PAGE_BYTES]);
+    let bodies = held.map(|(address, page)| (2, [&address.to_le_bytes()[..], page].concat()));
+    let bodies: Vec<(u32, Vec<u8>)> = std::iter::once((1, state.to_bytes().to_vec())).chain(bodies).collect();
+    let (mut table, mut offset) = (vec![bodies.len() as u32], 4 + 12 * bodies.len() as u32);
+    for (kind, body) in &bodies {
+        table.extend([*kind, offset, body.len() as u32]);
+        offset += body.len() as u32;
+    }
+    let mut image: Vec<u8> = table.into_iter().flat_map(u32::to_le_bytes).collect();
+    bodies.iter().for_each(|(_, body)| image.extend_from_slice(body));
+    image
 }
