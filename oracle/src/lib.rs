@@ -2,7 +2,10 @@
 
 pub mod assemble;
 pub mod bench;
+pub mod calls;
 pub mod case;
+pub mod checkpoint;
+pub mod checkpoint_calls;
 pub mod compare;
 pub mod corners;
 #[cfg(exports)]
@@ -26,5 +29,6 @@ pub mod sweep;
 pub mod tally;
 pub mod text;
 pub mod text_calls;
+pub mod told;
 pub mod vectors;
 pub mod words;

@@ -5,6 +5,7 @@ use std::io::Read;
 use std::process::ExitCode;
 use std::time::Instant;
 
+use oracle::checkpoint_calls;
 use oracle::compare::Comparer;
 use oracle::generate;
 use oracle::inside::{self, InsideComparer};
@@ -33,6 +34,7 @@ const USAGE: &str = "usage: oracle COMMAND
   inside COUNT [SEED]     compares COUNT calls of what the host call does not reach, generated but for corners
   text COUNT [SEED]       compares the enumerated texts and COUNT generated calls of assembler and printer
   printed [COUNT [SEED]]  compares the prints of all 2^32 words, or of COUNT random ones, and what they assemble to
+  checkpoint COUNT [SEED] compares the enumerated and COUNT generated calls that write and read checkpoints
   vectors FILE            writes the fixed list of the oracle's answers
   lines FILE COUNT [SEED] writes COUNT generated calls in the same form
   replay FILE             replays such a list through the subject
@@ -52,6 +54,7 @@ fn main() -> ExitCode {
         Some("inside") => inside(number(1).unwrap_or(100_000), seed(2)),
         Some("text") => text_calls::texts(number(1).unwrap_or(100_000), seed(2)),
         Some("printed") => text_calls::printed(number(1), seed(2)),
+        Some("checkpoint") => checkpoint_calls::checkpoints(number(1).unwrap_or(50_000), seed(2)),
         Some("vectors") if arguments.len() == 2 => write_lines(&arguments[1], vectors::file()),
         Some("lines") if arguments.len() >= 3 => {
             write_lines(&arguments[1], vectors::generated_file(number(2).unwrap_or(0), seed(3)))

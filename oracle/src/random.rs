@@ -32,6 +32,20 @@ impl Random {
         from[self.below(from.len() as u64) as usize]
     }
 
+    /// A length that is enough, seven times out of eight, or a little or much too small.
+    pub fn near(&mut self, enough: usize, unit: usize) -> usize {
+        match self.below(32) {
+            0 => enough.saturating_sub(1),
+            1 => enough.saturating_sub(unit),
+            2 => self.below(enough as u64 + 1) as usize,
+            3 => 0,
+            4 | 5 => enough + 1,
+            6 | 7 => enough + unit,
+            8..=11 => enough + self.below(40) as usize,
+            _ => enough,
+        }
+    }
+
     pub fn bytes(&mut self, length: usize) -> Vec<u8> {
         (0..length).map(|_| self.draw() as u8).collect()
     }

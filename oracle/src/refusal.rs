@@ -15,6 +15,7 @@ pub enum Refusal {
     ListFull { pc: u64 },
     Malformed,
     BadLine { line: u64 },
+    BadImage,
 }
 
 impl Refusal {
@@ -30,6 +31,7 @@ impl Refusal {
             Refusal::ListFull { .. } => 8,
             Refusal::Malformed => 9,
             Refusal::BadLine { .. } => 10,
+            Refusal::BadImage => 11,
         }
     }
 
@@ -42,7 +44,7 @@ impl Refusal {
             Refusal::Beyond { missing } => missing,
             Refusal::Misaligned { address } => address,
             Refusal::Opcode { word } | Refusal::Operands { word } => word as u64,
-            Refusal::Malformed => 0,
+            Refusal::Malformed | Refusal::BadImage => 0,
             Refusal::BadLine { line } => line,
         }
     }

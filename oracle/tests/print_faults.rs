@@ -1,8 +1,9 @@
 //! Deliberately wrong printers: each must be found, and its difference shrunk to a few words.
 
 use oracle::random::Random;
-use oracle::text::{assemble, print, TextSubject, Told};
+use oracle::text::{assemble, print, TextSubject};
 use oracle::text_calls::{any, decodable, Call, PrintedWords, TextComparer, What};
+use oracle::told::Told;
 
 type Assemble = fn(&[u8], &mut [u8], &mut [u64]) -> Told;
 type Print = fn(&[u8], &mut [u8]) -> Told;

@@ -1,6 +1,7 @@
 //! The language of document 02, A1, rule by rule: what is accepted with its words, and what is refused.
 
-use oracle::text::{assemble, name, named, print, Told};
+use oracle::text::{assemble, name, named, print};
+use oracle::told::Told;
 use zkir_spec::Opcode;
 
 /// The words of a text that is accepted.

@@ -1,6 +1,7 @@
 //! The calls by which texts are compared meet both sides of the language, and so do the texts that are measured.
 
 use oracle::bench::text_rows;
+use oracle::calls::Compared;
 use oracle::parallel::Words;
 use oracle::random::Random;
 use oracle::text::{lines, named, Line, OracleText};

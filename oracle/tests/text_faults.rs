@@ -3,8 +3,9 @@
 use std::collections::HashMap;
 
 use oracle::random::Random;
-use oracle::text::{assemble, lines, named, print, Line, TextSubject, Told, NUMBERS_PER_LABEL};
+use oracle::text::{assemble, lines, named, print, Line, TextSubject, NUMBERS_PER_LABEL};
 use oracle::text_calls::{any, TextComparer, What, SECTIONS};
+use oracle::told::Told;
 
 type Assemble = fn(&[u8], &mut [u8], &mut [u64]) -> Told;
 

@@ -1,7 +1,10 @@
 //! Processor time of the published Rust, of the interpreter written by hand and of the subject, on the same programs in
 //! the same process. Subjects take turns, and the least of the rounds counts: what disturbs a round only lengthens it.
 
+mod beside;
+mod checkpoint;
 mod clock;
+mod effort;
 mod row;
 mod shared;
 mod text;
@@ -10,19 +13,15 @@ mod workloads;
 use crate::interpreter::Interpreter;
 use crate::subject::{Oracle, Subject};
 
+pub use beside::{verdict, Beside};
+pub use checkpoint::{checkpoint_rows, print_checkpoint_table, CheckpointRow};
+pub use effort::Effort;
 pub use row::{rows, Pace, Row};
 pub use shared::Shared;
-pub use text::{print_text_table, text_rows, TextEffort, TextRow, TextTimes};
+pub use text::{print_text_table, text_rows, TextRow};
 
 /// Instructions after which all subjects must have left the same, before anything is measured.
 const AGREEMENT: u64 = 50_000;
-
-/// How often each row is measured, and over how many instructions.
-#[derive(Clone, Copy)]
-pub struct Effort {
-    pub rounds: u64,
-    pub instructions: u64,
-}
 
 /// The subjects of a table besides the published Rust and the interpreter written by hand.
 pub struct Subjects<'s> {
@@ -61,10 +60,7 @@ pub fn print(subjects: &Subjects, effort: Effort) -> Extremes {
 }
 
 fn print_head(beside: bool, effort: Effort) {
-    println!(
-        "least of {} rounds of {} instructions, processor time of the thread\n",
-        effort.rounds, effort.instructions
-    );
+    println!("least of {} rounds of {} instructions, processor time of the thread\n", effort.rounds, effort.count);
     print!("| Workload | Mode | ns per | Published Rust | By hand | Ours | Published / ours | Ours / by hand |");
     println!("{}", if beside { " Beside | Ours / beside |" } else { "" });
     println!("|---|---|---|---|---|---|---|---|{}", if beside { "---|---|" } else { "" });
@@ -90,11 +86,5 @@ fn least_times(row: &Row, subjects: &[&dyn Subject], effort: Effort) -> Vec<f64>
     for other in &subjects[1..] {
         assert!(row.agree(subjects[0], *other, AGREEMENT), "{}, {:?}: subjects differ", row.name, row.mode);
     }
-    let mut least = vec![f64::INFINITY; subjects.len()];
-    for _ in 0..effort.rounds {
-        for (subject, least) in subjects.iter().zip(&mut least) {
-            *least = least.min(row.time(*subject, effort.instructions));
-        }
-    }
-    least
+    effort.least_times(subjects, |subject, instructions| row.time(subject, instructions))
 }

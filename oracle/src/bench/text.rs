@@ -1,19 +1,16 @@
 //! Processor time of the plain assembler and printer and of the subject, on the same texts in the same process.
 
 use crate::assemble::{image, word};
+use crate::calls::Compared;
 use crate::random::Random;
-use crate::text::{OracleText, TextSubject, Told};
+use crate::text::{OracleText, TextSubject};
 use crate::text_calls::{Call, What};
+use crate::told::Told;
 use zkir_spec::Opcode;
 
+use super::beside::Beside;
 use super::clock;
-
-/// How often each row is measured, and over how many lines.
-#[derive(Clone, Copy)]
-pub struct TextEffort {
-    pub rounds: u64,
-    pub lines: u64,
-}
+use super::effort::Effort;
 
 /// A call that is measured; a print has a line for each word.
 pub struct TextRow {
@@ -34,29 +31,15 @@ pub fn text_rows() -> Vec<TextRow> {
     ]
 }
 
-/// A row with the nanoseconds a line that both took.
-pub struct TextTimes {
-    pub row: TextRow,
-    pub plain: f64,
-    pub ours: f64,
-}
-
-impl TextTimes {
-    pub fn ratio(&self) -> f64 {
-        self.ours / self.plain
-    }
-}
-
 /// Prints a table in Markdown, a line as soon as its row is measured.
-pub fn print_text_table(ours: &dyn TextSubject, effort: TextEffort) -> Vec<TextTimes> {
-    println!("least of {} rounds of {} lines, processor time of the thread\n", effort.rounds, effort.lines);
+pub fn print_text_table(ours: &dyn TextSubject, effort: Effort) -> Vec<Beside> {
+    println!("least of {} rounds of {} lines, processor time of the thread\n", effort.rounds, effort.count);
     println!("| Call | Lines | Labels | Plain Rust, ns a line | Ours, ns a line | Ours / plain Rust |");
     println!("|---|---|---|---|---|---|");
     let measured = text_rows().into_iter().map(|row| {
-        let [plain, ours] = row.least_times([&OracleText, ours], effort);
-        let TextRow { name, lines, labels, .. } = row;
-        println!("| {name} | {lines} | {labels} | {plain:.1} | {ours:.1} | {:.2} |", ours / plain);
-        TextTimes { row, plain, ours }
+        let measured = row.measured(ours, effort);
+        println!("| {} | {} | {} | {}", row.name, row.lines, row.labels, measured.cells());
+        measured
     });
     measured.collect()
 }
@@ -69,16 +52,12 @@ impl TextRow {
         Self { name: "assemble", lines, labels, call }
     }
 
-    fn least_times(&self, subjects: [&dyn TextSubject; 2], effort: TextEffort) -> [f64; 2] {
-        let left = subjects.map(|subject| self.call.through(subject));
-        assert!(left[0] == left[1] && left[0].told.code == 0, "{}, {} lines: subjects differ", self.name, self.lines);
-        let mut least = [f64::INFINITY; 2];
-        for _ in 0..effort.rounds {
-            for (subject, least) in subjects.iter().zip(&mut least) {
-                *least = least.min(self.time(*subject, effort.lines));
-            }
-        }
-        least
+    fn measured(&self, ours: &dyn TextSubject, effort: Effort) -> Beside {
+        let title = format!("{}, {} lines", self.name, self.lines);
+        let both: [&dyn TextSubject; 2] = [&OracleText, ours];
+        let left = both.map(|subject| self.call.through(subject));
+        assert!(left[0] == left[1] && left[0].told.code == 0, "{title}: subjects differ");
+        Beside::measured(title, both, effort, |subject, lines| self.time(subject, lines))
     }
 
     /// Nanoseconds of processor time per line.

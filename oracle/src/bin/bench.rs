@@ -12,8 +12,7 @@ fn main() -> ExitCode {
     let mut arguments: Vec<String> = env::args().skip(1).collect();
     let ours = shared("--ours", &mut arguments);
     let beside = shared("--beside", &mut arguments);
-    let number = |at: usize| arguments.get(at).map(|text| text.parse::<u64>().expect("a number"));
-    let effort = Effort { rounds: number(0).unwrap_or(11), instructions: number(1).unwrap_or(2_000_000) };
+    let effort = Effort::of(&arguments, 2_000_000);
     let (name, linked) = subject();
     println!("ours: {}", if ours.is_some() { "a shared object" } else { name });
     let ours = ours.as_ref().map_or(linked, |shared| shared as &dyn Subject);

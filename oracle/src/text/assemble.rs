@@ -1,10 +1,10 @@
 use std::collections::hash_map::{Entry, HashMap};
 
 use crate::refusal::Refusal;
+use crate::told::Told;
 
 use super::instruction::instruction;
 use super::lines::{lines, Line};
-use super::told::Told;
 use super::NUMBERS_PER_LABEL;
 
 /// Writes the words of the text into the front of `words`. The numbers of `labels` are only counted: they are the table

@@ -1,8 +1,9 @@
 //! The two calls of the crate `text`, as it declares them: a lent slice goes as a pointer and a length. They are total, so
 //! that calling them is safe.
 
+use crate::told::Told;
+
 use super::subject::TextSubject;
-use super::told::Told;
 
 #[rustfmt::skip]
 extern "C" {

@@ -11,7 +11,6 @@ mod names;
 mod print;
 mod subject;
 mod sum;
-mod told;
 
 pub use assemble::assemble;
 pub use instruction::NESTING;
@@ -19,7 +18,6 @@ pub use lines::{lines, Line};
 pub use names::{name, named, Form};
 pub use print::{print, LONGEST_LINE};
 pub use subject::{subject, OracleText, TextSubject};
-pub use told::Told;
 
 /// The numbers of the table that a caller lends for each label of a text.
 pub const NUMBERS_PER_LABEL: usize = 3;

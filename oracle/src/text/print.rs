@@ -1,9 +1,9 @@
 use zkir_spec::{decode, Instruction, Operands, Register, Undecodable};
 
 use crate::refusal::Refusal;
+use crate::told::Told;
 
 use super::names::name;
-use super::told::Told;
 
 /// The bytes of `Addi R15, R15, -65536` and its LF; none is longer.
 pub const LONGEST_LINE: usize = 22;

@@ -1,4 +1,5 @@
-use super::told::Told;
+use crate::told::Told;
+
 use super::{assemble, print};
 
 /// The two calls that are compared.

@@ -1,4 +1,5 @@
-use crate::text::{lines, print, Line, TextSubject, Told, LONGEST_LINE, NUMBERS_PER_LABEL};
+use crate::text::{lines, print, Line, LONGEST_LINE, NUMBERS_PER_LABEL};
+use crate::told::Told;
 
 #[derive(Clone, Copy, Debug, PartialEq, Eq)]
 pub enum What {
@@ -71,14 +72,5 @@ impl Call {
             What::Assemble => Needs::of(&self.given),
             What::Print => Needs::of_words(&self.given),
         }
-    }
-
-    pub fn through(&self, subject: &dyn TextSubject) -> Left {
-        let (mut output, mut labels) = (self.output.clone(), self.labels.clone());
-        let told = match self.what {
-            What::Assemble => subject.assemble(&self.given, &mut output, &mut labels),
-            What::Print => subject.print(&self.given, &mut output),
-        };
-        Left { told, output, labels }
     }
 }

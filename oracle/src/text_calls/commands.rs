@@ -2,38 +2,18 @@
 
 use std::time::Instant;
 
+use crate::calls::Calls;
 use crate::parallel::by_all_processors;
 use crate::random::Random;
 use crate::text::{subject, TextSubject};
 
-use super::compare::{Difference, TextComparer};
+use super::compare::TextDifference;
 use super::generate::{any, decodable};
-use super::met::Met;
 use super::words::PrintedWords;
 use super::SECTIONS;
 
 pub fn texts(count: u64, seed: u64) -> bool {
-    let (name, subject) = subject();
-    let mut comparer = TextComparer::new(subject);
-    let started = Instant::now();
-    println!("enumerated texts, then {count} generated calls, seed {seed}");
-    for (title, section) in SECTIONS {
-        let before = comparer.compared;
-        section(&mut |call| {
-            comparer.compare(&call);
-        });
-        println!("  {title}: {}", comparer.compared - before);
-        if comparer.difference.is_some() {
-            break;
-        }
-    }
-    println!("{}", comparer.met);
-    comparer.met = Met::default();
-    let mut random = Random::seeded(seed);
-    let generated = (0..count).take_while(|_| comparer.compare(&any(&mut random))).count();
-    println!("  generated: {generated}\n{}", comparer.met);
-    println!("compared with {name}: {} calls in {:.1} s", comparer.compared, started.elapsed().as_secs_f64());
-    shown(comparer.difference.as_ref())
+    Calls { enumerated: "texts", sections: &SECTIONS, generated: any }.compare(subject(), count, seed)
 }
 
 pub fn printed(count: Option<u64>, seed: u64) -> bool {
@@ -52,7 +32,7 @@ pub fn printed(count: Option<u64>, seed: u64) -> bool {
     let sum = |number: fn(&PrintedWords) -> u64| parts.iter().map(number).sum::<u64>();
     let (opcodes, bits) = (sum(|part| part.unknown_opcodes), sum(|part| part.unused_bits));
     println!("  printed and assembled {}, refused (4) {opcodes}, (5) {bits}", sum(|part| part.decodable));
-    shown(parts.iter().find_map(|part| part.difference.as_ref()))
+    TextDifference::shown(parts.iter().find_map(|part| part.difference.as_ref()))
 }
 
 fn compared(subject: &dyn TextSubject, mut words: impl Iterator<Item = u32>) -> PrintedWords<'_> {
@@ -61,12 +41,4 @@ fn compared(subject: &dyn TextSubject, mut words: impl Iterator<Item = u32>) -> 
         printed.finish();
     }
     printed
-}
-
-fn shown(difference: Option<&Difference>) -> bool {
-    match difference {
-        None => println!("no difference"),
-        Some(difference) => println!("{difference}"),
-    }
-    difference.is_none()
 }

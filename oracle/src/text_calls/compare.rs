@@ -1,5 +1,6 @@
 use std::fmt;
 
+use crate::calls::{Compared, Comparer, Difference};
 use crate::compare::hex;
 use crate::text::{OracleText, TextSubject};
 
@@ -7,50 +8,34 @@ use super::call::{Call, Left, Needs, What};
 use super::met::Met;
 use super::shrink::shrink;
 
-/// Compares the calls of a subject with the oracle's.
-pub struct TextComparer<'s> {
-    subject: &'s dyn TextSubject,
-    pub compared: u64,
-    pub met: Met,
-    /// The first difference, shrunk; nothing is compared after it.
-    pub difference: Option<Difference>,
-}
+pub type TextComparer<'s> = Comparer<'s, Call>;
+pub type TextDifference = Difference<Call>;
 
-/// A smallest call on which the two differ.
-pub struct Difference {
-    pub call: Call,
-    pub oracle: Left,
-    pub subject: Left,
-}
+impl Compared for Call {
+    type Subject<'s> = dyn TextSubject + 's;
+    type Left = Left;
+    type Met = Met;
+    const ORACLE: &'static dyn TextSubject = &OracleText;
 
-impl<'s> TextComparer<'s> {
-    pub fn new(subject: &'s dyn TextSubject) -> Self {
-        Self { subject, compared: 0, met: Met::default(), difference: None }
+    fn through<'s>(&self, subject: &'s (dyn TextSubject + 's)) -> Left {
+        let (mut output, mut labels) = (self.output.clone(), self.labels.clone());
+        let told = match self.what {
+            What::Assemble => subject.assemble(&self.given, &mut output, &mut labels),
+            What::Print => subject.print(&self.given, &mut output),
+        };
+        Left { told, output, labels }
     }
 
-    /// Compares one call; false once a difference was found.
-    pub fn compare(&mut self, call: &Call) -> bool {
-        if self.difference.is_some() {
-            return false;
-        }
-        let right = call.through(&OracleText);
-        self.compared += 1;
-        self.met.count(call, &right.told);
-        if call.through(self.subject) != right {
-            self.difference = Some(Difference::shrunk(call.clone(), self.subject));
-        }
-        self.difference.is_none()
+    fn count(&self, left: &Left, met: &mut Met) {
+        met.count(self, &left.told);
+    }
+
+    fn shrunk(self, differs: &dyn Fn(&Self) -> bool) -> Self {
+        shrink(self, differs)
     }
 }
 
-impl Difference {
-    pub fn shrunk(call: Call, subject: &dyn TextSubject) -> Self {
-        let call = shrink(call, &|call| call.through(&OracleText) != call.through(subject));
-        Self { oracle: call.through(&OracleText), subject: call.through(subject), call }
-    }
-}
-
-impl fmt::Display for Difference {
+impl fmt::Display for TextDifference {
     fn fmt(&self, f: &mut fmt::Formatter) -> fmt::Result {
         self.call.show(f)?;
         for (who, left) in [("oracle", &self.oracle), ("subject", &self.subject)] {

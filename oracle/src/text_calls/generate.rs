@@ -102,24 +102,10 @@ pub fn label_name(random: &mut Random) -> Vec<u8> {
 /// A text with what is lent: mostly enough, and filled with anything.
 fn assembling(text: Vec<u8>, random: &mut Random) -> Call {
     let Needs { bytes, numbers } = Needs::of(&text);
-    let output = near(bytes, 4, random);
-    let numbers = near(numbers, 3, random);
+    let output = random.near(bytes, 4);
+    let numbers = random.near(numbers, 3);
     let labels = (0..numbers).map(|_| if random.chance(4) { 0 } else { random.draw() }).collect();
     Call { what: What::Assemble, given: text, output: random.bytes(output), labels }
-}
-
-/// A length that is enough, seven times out of eight, or a little or much too small.
-fn near(enough: usize, unit: usize, random: &mut Random) -> usize {
-    match random.below(32) {
-        0 => enough.saturating_sub(1),
-        1 => enough.saturating_sub(unit),
-        2 => random.below(enough as u64 + 1) as usize,
-        3 => 0,
-        4 | 5 => enough + 1,
-        6 | 7 => enough + unit,
-        8..=11 => enough + random.below(40) as usize,
-        _ => enough,
-    }
 }
 
 /// Words that mostly decode, now and then a byte or more too long.
@@ -133,7 +119,7 @@ fn printing(random: &mut Random) -> Call {
     }
     let length = 4 * words.len() + random.pick(&[0, 0, 0, 0, 0, 0, 0, 1, 2, 3]);
     let call = Call::print(image(&words, length));
-    let output = near(call.output.len(), LONGEST_LINE, random);
+    let output = random.near(call.output.len(), LONGEST_LINE);
     Call { output: random.bytes(output), ..call }
 }
 

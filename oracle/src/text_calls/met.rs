@@ -1,6 +1,6 @@
 use std::fmt;
 
-use crate::text::Told;
+use crate::told::Told;
 
 use super::call::{Call, What};
 

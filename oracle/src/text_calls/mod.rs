@@ -13,19 +13,18 @@ mod sequences;
 mod shrink;
 mod words;
 
+use crate::calls::Section;
+
 pub use call::{Call, Left, Needs, What};
 pub use commands::{printed, texts};
-pub use compare::{Difference, TextComparer};
+pub use compare::{TextComparer, TextDifference};
 pub use example::{SMALL, WHOLE};
 pub use generate::{any, decodable, program};
 pub use met::Met;
 pub use words::PrintedWords;
 
-/// Visits every call of a kind.
-pub type Section = fn(&mut dyn FnMut(Call));
-
 /// The enumerated calls, by what is enumerated.
-pub const SECTIONS: [(&str, Section); 16] = [
+pub const SECTIONS: [(&str, Section<Call>); 16] = [
     ("texts of at most four bytes", sequences::bytes),
     ("lines", sequences::lines),
     ("parts of a line", sequences::parts_of_a_line),

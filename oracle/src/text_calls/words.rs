@@ -2,11 +2,12 @@
 
 use zkir_spec::{decode, Undecodable};
 
+use crate::calls::Compared;
 use crate::refusal::Refusal;
 use crate::text::{print, OracleText, TextSubject, LONGEST_LINE};
 
 use super::call::Call;
-use super::compare::Difference;
+use super::compare::TextDifference;
 
 /// So many words that decode go in one call.
 const BATCH: usize = 4096;
@@ -19,7 +20,7 @@ pub struct PrintedWords<'s> {
     pub unknown_opcodes: u64,
     pub unused_bits: u64,
     /// The first difference, shrunk; nothing is compared after it.
-    pub difference: Option<Difference>,
+    pub difference: Option<TextDifference>,
     oracle: Vec<u8>,
     printed: Vec<u8>,
     assembled: Vec<u8>,
@@ -95,6 +96,6 @@ impl<'s> PrintedWords<'s> {
 
     fn differ(&mut self, call: Call) {
         assert!(call.through(&OracleText) != call.through(self.subject), "the oracle does not give these words back");
-        self.difference.get_or_insert_with(|| Difference::shrunk(call, self.subject));
+        self.difference.get_or_insert_with(|| TextDifference::shrunk(call, self.subject));
     }
 }
