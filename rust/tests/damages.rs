@@ -345,9 +345,7 @@ fn every_byte_of_a_small_image_changed() {
     memory[4096 + 100] = 7;
     let (good, mut met) = (image_of(&state(), &memory), [0; 2]);
     for place in 0..good.len() {
-        let several = [0, 1, 2, 0x7f, 0x80, 0xff];
-        let values: Vec<u8> = if place < 436 { (0..=255).collect() } else { several.to_vec() };
-        for byte in values.into_iter().filter(|&byte| byte != good[place]) {
+        for byte in (0..=255).filter(|&byte| byte != good[place]) {
             met[usize::from(is_refused(&good, place, byte))] += 1;
         }
     }
