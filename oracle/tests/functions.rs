@@ -55,6 +55,30 @@ fn a_product_of_64_bits() {
     assert!(difference.arguments.iter().map(|number| number.count_ones()).sum::<u32>() <= 4, "{difference}");
 }
 
+/// Mulh in columns of 20 bits: which products of two columns count, and which columns carry.
+fn in_columns(a: &[u64], counts: fn(usize, usize) -> bool, carries: fn(usize) -> bool) -> u64 {
+    let column = |number: u64, k: usize| number >> (20 * k) & 0xf_ffff;
+    let (mut carry, mut answer) = (0, 0);
+    for k in 0..4 {
+        let products = (0..=k).filter(|&i| counts(i, k - i)).map(|i| column(a[0], i) * column(a[1], k - i));
+        let sum = products.sum::<u64>() + carry;
+        carry = if carries(k) { sum >> 20 } else { 0 };
+        answer = answer >> 20 | (sum & 0xf_ffff) << 20;
+    }
+    answer
+}
+
+#[test]
+fn a_product_in_columns() {
+    let all: Answered = |a| in_columns(a, |_, _| true, |_| true);
+    assert!(compare(named("value_mulh"), all, 20_000, &mut Random::seeded(2)).is_ok());
+    found("value_mulh", |a| in_columns(a, |_, _| true, |k| k != 0));
+    found("value_mulh", |a| in_columns(a, |_, _| true, |k| k != 1));
+    found("value_mulh", |a| in_columns(a, |_, _| true, |k| k != 2));
+    found("value_mulh", |a| in_columns(a, |i, j| i < 3 && j < 3, |_| true));
+    found("value_mulh", |a| in_columns(a, |i, j| i <= j, |_| true));
+}
+
 #[test]
 fn a_quotient_by_bit_39() {
     let signed = |number: u64| (number << 24) as i64 >> 24;

@@ -38,25 +38,37 @@ struct Times {
     beside: Option<f64>,
 }
 
-/// The extreme ratios over the rows that count instructions.
-pub struct Extremes {
+/// Over the rows that count instructions: the extreme ratios, and where ours takes longer than it may.
+pub struct Summary {
     pub least_published_by_ours: f64,
     pub most_ours_by_hand: f64,
+    pub too_slow: Vec<String>,
 }
 
 /// Prints a table in Markdown, a line as soon as its row is measured.
-pub fn print(subjects: &Subjects, effort: Effort) -> Extremes {
+pub fn print(subjects: &Subjects, effort: Effort) -> Summary {
     print_head(subjects.beside.is_some(), effort);
-    let mut extremes = Extremes { least_published_by_ours: f64::INFINITY, most_ours_by_hand: 0.0 };
+    let mut summary = Summary { least_published_by_ours: f64::INFINITY, most_ours_by_hand: 0.0, too_slow: Vec::new() };
     for row in rows() {
         let times = measured(&row, subjects, effort);
         print_row(&row, &times);
-        if let Pace::OneRun = row.pace {
-            extremes.least_published_by_ours = extremes.least_published_by_ours.min(times.published / times.ours);
-            extremes.most_ours_by_hand = extremes.most_ours_by_hand.max(times.ours / times.by_hand);
+        if let Some(most) = row.most {
+            summary.take(&row, &times, most);
         }
     }
-    extremes
+    summary
+}
+
+impl Summary {
+    fn take(&mut self, row: &Row, times: &Times, most: f64) {
+        self.least_published_by_ours = self.least_published_by_ours.min(times.published / times.ours);
+        self.most_ours_by_hand = self.most_ours_by_hand.max(times.ours / times.by_hand);
+        let ratio = times.ours / times.published;
+        if ratio > most {
+            let Row { name, mode, .. } = row;
+            self.too_slow.push(format!("{name}, {mode:?}: ours takes {ratio:.2} times as long, over {most}"));
+        }
+    }
 }
 
 fn print_head(beside: bool, effort: Effort) {

@@ -34,6 +34,8 @@ pub struct Row {
     pub name: String,
     pub mode: Mode,
     pub pace: Pace,
+    /// How many times as long as the published Rust ours may take for an instruction. Calls have no such limit.
+    pub most: Option<f64>,
     program: Vec<u32>,
     memory: usize,
 }
@@ -47,11 +49,11 @@ struct Lent {
 
 pub fn rows() -> Vec<Row> {
     let mut rows = Vec::new();
-    for (name, program) in workloads() {
-        rows.extend(Mode::BOTH.map(|mode| Row::one_run(name.to_string(), mode, program.clone(), USUAL_MEMORY)));
+    for (name, program, most) in workloads() {
+        rows.extend(Mode::BOTH.map(|mode| Row::one_run(name.to_string(), mode, program.clone(), USUAL_MEMORY, most)));
     }
     for (size, memory) in [("4 KiB", 4 * KIBI), ("16 MiB", 16 * KIBI * KIBI)] {
-        rows.push(Row::one_run(format!("memory copy, {size}"), Mode::Plain, copy(), memory));
+        rows.push(Row::one_run(format!("memory copy, {size}"), Mode::Plain, copy(), memory, 1.0));
     }
     for fuel in [1, 10, 100] {
         rows.extend(Mode::BOTH.map(|mode| Row::calls_of(fuel, mode)));
@@ -60,13 +62,13 @@ pub fn rows() -> Vec<Row> {
 }
 
 impl Row {
-    fn one_run(name: String, mode: Mode, program: Vec<u32>, memory: usize) -> Self {
-        Self { name, mode, pace: Pace::OneRun, program, memory }
+    fn one_run(name: String, mode: Mode, program: Vec<u32>, memory: usize, most: f64) -> Self {
+        Self { name, mode, pace: Pace::OneRun, most: Some(most), program, memory }
     }
 
     fn calls_of(fuel: u64, mode: Mode) -> Self {
         let name = format!("calls of fuel {fuel}");
-        Self { name, mode, pace: Pace::CallsOf { fuel }, program: alu(), memory: USUAL_MEMORY }
+        Self { name, mode, pace: Pace::CallsOf { fuel }, most: None, program: alu(), memory: USUAL_MEMORY }
     }
 
     /// Nanoseconds of processor time per instruction or per call, from a fresh state.

@@ -4,18 +4,22 @@ use zkir_spec::Opcode;
 
 use crate::assemble::{b, i, r, s, ECALL};
 
-/// A name and a program.
-pub type Workload = (&'static str, Vec<u32>);
+/// A name, a program, and how many times as long as the published Rust ours may take for it.
+pub type Workload = (&'static str, Vec<u32>, f64);
 
-pub fn workloads() -> [Workload; 7] {
+/// Ours works Mulh out in columns, to be read, where the published Rust has an integer of 128 bits.
+const MULH_IN_COLUMNS: f64 = 1.5;
+
+pub fn workloads() -> [Workload; 8] {
     [
-        ("ALU loop", alu()),
-        ("memory copy", copy()),
-        ("Add chain", chain()),
-        ("branches", branches()),
-        ("division", division()),
-        ("all sizes", sizes()),
-        ("Ecalls", ecalls()),
+        ("ALU loop", alu(), 1.0),
+        ("memory copy", copy(), 1.0),
+        ("Add chain", chain(), 1.0),
+        ("branches", branches(), 1.0),
+        ("division", division(), 1.0),
+        ("Mulh loop", products(), MULH_IN_COLUMNS),
+        ("all sizes", sizes(), 1.0),
+        ("Ecalls", ecalls(), 1.0),
     ]
 }
 
@@ -103,6 +107,17 @@ fn division() -> Vec<u32> {
         i(Opcode::Addi, 3, 3, 2),
         b(Opcode::Beq, 0, 0, -32),
     ]
+}
+
+/// Mulh by a number of 64 bits, each of the answer before it. Two numbers stand behind the loop, at 64 and 72.
+fn products() -> Vec<u32> {
+    const NUMBERS: [u32; 4] = [0x7654_3210, 0xFEDC_BA98, 0x0123_4567, 0x89AB_CDEF];
+    let mut program = vec![i(Opcode::Ld, 1, 0, 64), i(Opcode::Ld, 14, 0, 72)];
+    program.push(r(Opcode::Mulh, 2, 14, 1));
+    program.extend((3..=14).map(|rd| r(Opcode::Mulh, rd, rd - 1, 1)));
+    program.push(b(Opcode::Beq, 0, 0, -52));
+    program.extend(NUMBERS);
+    program
 }
 
 /// Loads and stores of one, two, four and eight bytes, signed and unsigned.
