@@ -53,21 +53,23 @@ left-fits x y f = record { fits = omega (arith, f .fits) }
 pub right-fits : (x y : ℕ) → Fits w64 (x + y) → Fits w64 y
 right-fits x y f = record { fits = omega (arith, f .fits) }
 
-pub joined-fits : (h l : ℕ) → Fits w64 (h % 2 ^ 20 * 2 ^ 20 + l % 2 ^ 20)
-joined-fits h l = record { fits = omega arith }
+pub answer-fits : (h l : ℕ) → Fits w64 (h % 2 ^ 20 * 2 ^ 20 + l % 2 ^ 20)
+answer-fits h l = record { fits = omega arith }
 
-whole : (n : ℕ) → n ≡ digit n 3 * 2 ^ 60 + digit n 2 * 2 ^ 40 + digit n 1 * 2 ^ 20 + digit n 0
+-- what four columns amount to
+abbrev joined : (ℕ → ℕ) → ℕ
+joined x = x 3 * 2 ^ 60 + x 2 * 2 ^ 40 + x 1 * 2 ^ 20 + x 0
+
+whole : (n : ℕ) → n ≡ joined (digit n)
 whole n = omega arith
 
-expand : (x y : ℕ → ℕ)
-    → (x 3 * 2 ^ 60 + x 2 * 2 ^ 40 + x 1 * 2 ^ 20 + x 0) * (y 3 * 2 ^ 60 + y 2 * 2 ^ 40 + y 1 * 2 ^ 20 + y 0)
+expand : (x y : ℕ → ℕ) → joined x * joined y
     ≡ (x 3 * y 3 * 2 ^ 40 + (x 2 * y 3 + x 3 * y 2) * 2 ^ 20 + (x 1 * y 3 + x 2 * y 2 + x 3 * y 1)) * 2 ^ 80
-    + (products x y 3 0 * 2 ^ 60 + products x y 2 0 * 2 ^ 40 + products x y 1 0 * 2 ^ 20 + products x y 0 0)
+    + joined (λ k. products x y k 0)
 expand x y = omega arith
 
 -- What a column keeps and what it carries are all of it: so columns 2 and 3 hold what the number does.
-carried : (x y : ℕ → ℕ) (n above : ℕ)
-    → n ≡ above * 2 ^ 80 + (products x y 3 0 * 2 ^ 60 + products x y 2 0 * 2 ^ 40 + products x y 1 0 * 2 ^ 20 + products x y 0 0)
+carried : (x y : ℕ → ℕ) (n above : ℕ) → n ≡ above * 2 ^ 80 + joined (λ k. products x y k 0)
     → column x y 3 % 2 ^ 20 * 2 ^ 20 + column x y 2 % 2 ^ 20 ≡ n / 2 ^ 40 % 2 ^ 40
 carried x y n above e =
     sym (ap (λ (m : ℕ). m / 2 ^ 40 % 2 ^ 40) split

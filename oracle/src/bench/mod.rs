@@ -16,7 +16,7 @@ use crate::subject::{Oracle, Subject};
 pub use beside::{verdict, Beside};
 pub use checkpoint::{checkpoint_rows, print_checkpoint_table, CheckpointRow};
 pub use effort::Effort;
-pub use row::{rows, Pace, Row};
+pub use row::{rows, Row};
 pub use shared::Shared;
 pub use text::{print_text_table, text_rows, TextRow};
 

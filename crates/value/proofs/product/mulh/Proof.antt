@@ -1,6 +1,6 @@
 use Prim.Native.Nat.{ℕ, suc, _-_, _*_, _^_, _≤_}
 use native.Mathlib.Omega.{arith}
-use Rattle.value.proofs.Columns.{digit, products, sum-below, column-fits, left-fits, right-fits, joined-fits, columns-2-and-3}
+use Rattle.value.proofs.Columns.{digit, products, sum-below, column-fits, left-fits, right-fits, answer-fits, columns-2-and-3}
 use Rattle.value.proofs.product.mulh.Statement.{statement}
 use Rattle.value.proofs.product.mulh.Tie as tie
 use Rattle.value.proofs.product.mulh.Reads as reads
@@ -68,7 +68,7 @@ mul-column3 : tie.Need-mul-column3
 mul-column3 c = left-fits _ _ (add-column3 c)
 
 add-result : tie.Need-add-result
-add-result c = joined-fits _ _
+add-result c = answer-fits _ _
 
 mul-result : tie.Need-mul-result
 mul-result c = left-fits _ _ (add-result c)
