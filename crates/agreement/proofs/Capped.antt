@@ -5,14 +5,14 @@ use mathlib.Core.List.{List}
 use native.Mathlib.Omega.{arith}
 use lib.Dec.{leb, eqb}
 use Rattle.refusal.specs.declared.Refusal.{Refusal}
-use Rattle.bound.specs.Bits.{bits_of, afterSrl}
+use Rattle.bound.specs.Bits.{bits_of, after_srl}
 use Rattle.memory.specs.declared.Loaded.{Loaded}
 use Rattle.memory.specs.declared.Loaded.TheVariants as L
 use Rattle.memory.specs.declared.Stored.{Stored}
 use Rattle.memory.specs.declared.Stored.TheVariants as S
-use Rattle.effect.specs.Notes.{Notes, resultBits, documentNotes}
+use Rattle.effect.specs.Notes.{Notes, result_bits, document_notes}
 use Rattle.effect.specs.Operations.{moves}
-use Rattle.effect.specs.Effects.{Seen, dividing, moving, onLoaded, onStorable, loading, storing, effect}
+use Rattle.effect.specs.Effects.{Seen, dividing, moving, on_loaded, on_storable, loading, storing, effect}
 use Rattle.effect.specs.Outcomes.{Effect, Outcome, Does, Refuses}
 use Rattle.instruction.specs.declared.Operation.{Operation}
 use Rattle.instruction.specs.declared.Operation.TheVariants.{Mulh, And, Or, Xor, Sll, Srl, Sra, Slt, Sltu, Sge, Sgeu, Seq, Sne}
@@ -28,13 +28,13 @@ data Bounded : Outcome → Type 0 where
 goes : {e : Effect} → e.bound ≡ 0 → Bounded (Does e)
 goes {e} z = let l : e.bound ≤ 64 = omega arith in does l
 
-bounded-loaded : (f : ℕ → Outcome) (l : Loaded) → ((v : ℕ) → Bounded (f v)) → Bounded (onLoaded f l)
-unfolding onLoaded
+bounded-loaded : (f : ℕ → Outcome) (l : Loaded) → ((v : ℕ) → Bounded (f v)) → Bounded (on_loaded f l)
+unfolding on_loaded
 bounded-loaded f (L.Value v) h = h v
 bounded-loaded f (L.Refused r) h = refuses
 
-bounded-storable : (o : Outcome) (s : Stored) → Bounded o → Bounded (onStorable o s)
-unfolding onStorable
+bounded-storable : (o : Outcome) (s : Stored) → Bounded o → Bounded (on_storable o s)
+unfolding on_storable
 bounded-storable o S.Done h = h
 bounded-storable o (S.Refused r) h = refuses
 
@@ -67,15 +67,15 @@ bits-capped : (v : ℕ) → bits_of v ≤ 64
 unfolding bits_of
 bits-capped v = omega arith
 
-result-capped : (op : Operation) (x y b : ℕ) → resultBits op x y b ≤ 64
-unfolding resultBits
+result-capped : (op : Operation) (x y b : ℕ) → result_bits op x y b ≤ 64
+unfolding result_bits
 result-capped Mulh x y b = omega arith
 result-capped And x y b = omega arith
 result-capped Or x y b = omega arith
 result-capped Xor x y b = omega arith
 result-capped Sll x y b = omega arith
 result-capped Srl x y b = omega arith
-result-capped Sra x y b = cond-case (λ (n : ℕ). n ≤ 64) (leb 40 x) 40 (afterSrl x (b % 64)) (λ _. omega arith) (λ _. omega arith)
+result-capped Sra x y b = cond-case (λ (n : ℕ). n ≤ 64) (leb 40 x) 40 (after_srl x (b % 64)) (λ _. omega arith) (λ _. omega arith)
 result-capped Slt x y b = omega arith
 result-capped Sltu x y b = omega arith
 result-capped Sge x y b = omega arith
@@ -83,7 +83,7 @@ result-capped Sgeu x y b = omega arith
 result-capped Seq x y b = omega arith
 result-capped Sne x y b = omega arith
 
-pub document-capped : Capped documentNotes
+pub document-capped : Capped document_notes
 document-capped =
     record {
       sum = λ x y. omega arith;

@@ -3,13 +3,13 @@ use Prim.Native.Nat.{ℕ}
 use mathlib.Core.Path.{◌≡◌, refl}
 use mathlib.Core.Bool.{Bool, true, false, cond}
 use Rattle.refusal.specs.declared.Refusal.{Refusal}
-use Rattle.memory.specs.Memory.{fetchOf}
+use Rattle.memory.specs.Memory.{fetch_of}
 use Rattle.memory.specs.declared.Fetched.{Fetched}
 use Rattle.memory.specs.declared.Fetched.TheVariants as F
 use Rattle.state.specs.Registers.{Registers, holds}
 use Rattle.effect.specs.Notes.{Notes}
-use Rattle.deferred.specs.Limbs.{Limbed, limbed, added, addedImm, covers, subtracted, limbs}
-use Rattle.words.specs.Words.{decodeIn}
+use Rattle.deferred.specs.Limbs.{Limbed, limbed, added, added_imm, covers, subtracted, limbs}
+use Rattle.words.specs.Words.{decode_in}
 use Rattle.words.specs.declared.Decoded.{Decoded}
 use Rattle.words.specs.declared.Decoded.TheVariants as D
 use Rattle.execute.specs.World.{World, Stepped, refused}
@@ -17,7 +17,7 @@ use Rattle.execute.specs.Execute.{execute}
 use Rattle.execute.specs.Rules.{Rules, obey}
 use Rattle.execute.specs.declared.Mode.{Mode}
 use Rattle.pending.specs.declared.Room.{Room}
-use Rattle.step.specs.Step.{fetched, stepIn}
+use Rattle.step.specs.Step.{fetched, step_in}
 use Rattle.instruction.specs.declared.Instruction.{Instruction}
 use Rattle.instruction.specs.declared.Instruction.TheVariants.{Add, Sub, Addi, Mul, Divide, Op, OpImm, Move, Load, Store, Branch, Jal, Jalr, Ecall, Ebreak}
 
@@ -32,7 +32,7 @@ test-case false f g = g refl
 -- only Add, Addi and Sub have one
 module _ (N : Notes) (R : Registers) (P : Instruction → Limbed → Type 0)
     (add : (rd rs1 rs2 : ℕ) → P (Add rd rs1 rs2) (limbed true (added N rd rs1 rs2 R)))
-    (addi : (rd rs1 imm : ℕ) → P (Addi rd rs1 imm) (limbed true (addedImm N rd rs1 imm R)))
+    (addi : (rd rs1 imm : ℕ) → P (Addi rd rs1 imm) (limbed true (added_imm N rd rs1 imm R)))
     (sub : (rd rs1 rs2 : ℕ) → covers (holds R rs1) (holds R rs2) ≡ true → P (Sub rd rs1 rs2) (limbed true (subtracted N rd rs1 rs2 R)))
     (other : (i : Instruction) → P i (limbed false R)) where
   pub limb-cases : (i : Instruction) → P i (limbs N i R)
@@ -64,8 +64,8 @@ module _ (P : World → Stepped → Type 0) (k : Mode) (room : Room) (R : Rules)
 
   fetched-case : (f : Fetched) (w : World) → P w (fetched k room R f w)
   unfolding fetched
-  fetched-case (F.Word x) w = obey-case (decodeIn R.number x) w
+  fetched-case (F.Word x) w = obey-case (decode_in R.number x) w
   fetched-case (F.Refused r) w = refuses r w
 
-  pub step_case : (w : World) → P w (stepIn k room R w)
-  step_case w = fetched-case (fetchOf w.memory w.pc) w
+  pub step_case : (w : World) → P w (step_in k room R w)
+  step_case w = fetched-case (fetch_of w.memory w.pc) w

@@ -11,11 +11,11 @@ use lib.Seq.{get_or-set_other}
 use borrow.Author.Tests.{ltb-true, leb-true, eqb-true, lt-ltb, le-leb}
 use Rattle.state.specs.Held.{Held, Whole, Limbs, low_of, high_of, held_of, kept, waits}
 use Rattle.state.specs.Registers.{Registers, holds, noted, place, put, normalise}
-use Rattle.state.specs.Formed.{limbsFit, is_zero, registerFits, zeroFits, all_below, wellFormed}
+use Rattle.state.specs.Formed.{limbs_fit, is_zero, register_fits, zero_fits, all_below, well_formed}
 use Rattle.state.proofs.Normal.{settled-whole, whole-limbs, held_kept}
 use Rattle.agreement.specs.Keeping.{SmallLimbs}
 
--- `wellFormed` in facts: "R0 is whole, zero, bound 0", bounds at most 64, and "Accumulated limbs are below 2^30" (a whole register's always)
+-- `well_formed` in facts: "R0 is whole, zero, bound 0", bounds at most 64, and "Accumulated limbs are below 2^30" (a whole register's always)
 pub record Formed (R : Registers) : Type 0 where
   pub zero-whole : holds R 0 ≡ Whole 0
   pub zero-bound : noted R 0 ≡ 0
@@ -46,13 +46,13 @@ whole-small : (n : ℕ) → Small (Whole n)
 unfolding Small
 whole-small n = let t = whole-limbs n in omega arith
 
-fit_small : (h : Held) → limbsFit h ≡ true → Small h
-unfolding limbsFit low_of high_of Small
+fit_small : (h : Held) → limbs_fit h ≡ true → Small h
+unfolding limbs_fit low_of high_of Small
 fit_small (Whole n) e = whole-small n
 fit_small (Limbs low high) e = let t = both_true _ _ e in (ltb-true _ _ t.0, ltb-true _ _ t.1)
 
-small-fits : (h : Held) → Small h → limbsFit h ≡ true
-unfolding limbsFit low_of high_of Small
+small-fits : (h : Held) → Small h → limbs_fit h ≡ true
+unfolding limbs_fit low_of high_of Small
 small-fits (Whole n) s = refl
 small-fits (Limbs low high) s = rw (lt-ltb low (2 ^ 30) s.0, lt-ltb high (2 ^ 30) s.1)
 
@@ -62,15 +62,15 @@ zero_held (Whole n) e = ap Whole (eqb-true n 0 e)
 zero_held (Limbs low high) e = cc
 
 -- registers are numbered modulo 16
-fits-at : (R : Registers) → all_below (registerFits R) 16 ≡ true → (n : ℕ) → (noted R n ≤ 64) × Small (holds R n)
-unfolding registerFits
+fits-at : (R : Registers) → all_below (register_fits R) 16 ≡ true → (n : ℕ) → (noted R n ≤ 64) × Small (holds R n)
+unfolding register_fits
 fits-at R e n =
     let same : n % 16 % 16 ≡ n % 16 = omega arith in
-    let t = both_true _ _ (rw same at (all-at (registerFits R) 16 (n % 16) e (omega arith))) in
+    let t = both_true _ _ (rw same at (all-at (register_fits R) 16 (n % 16) e (omega arith))) in
     (leb-true _ _ t.0, fit_small _ t.1)
 
-pub formed : (R : Registers) → wellFormed R ≡ true → Formed R
-unfolding wellFormed zeroFits Small
+pub formed : (R : Registers) → well_formed R ≡ true → Formed R
+unfolding well_formed zero_fits Small
 formed R e =
     let t = both_true _ _ e in
     let z = both_true _ _ t.0 in
@@ -81,11 +81,11 @@ formed R e =
       small = λ n. (fits-at R t.1 n).1;
     }
 
-pub well-formed : (R : Registers) → Formed R → wellFormed R ≡ true
-unfolding wellFormed zeroFits registerFits is_zero Small
+pub well-formed : (R : Registers) → Formed R → well_formed R ≡ true
+unfolding well_formed zero_fits register_fits is_zero Small
 well-formed R f =
     rw (f.zero-whole, f.zero-bound)
-    (all_from (registerFits R) 16 (λ n. rw (le-leb (noted R n) 64 (f.bounded n)) (small-fits (holds R n) (f.small n))))
+    (all_from (register_fits R) 16 (λ n. rw (le-leb (noted R n) 64 (f.bounded n)) (small-fits (holds R n) (f.small n))))
 
 -- a write keeps what holds of each number, whatever the list's length
 pub set_keeps : (P : ℕ → Type 0) (l : List ℕ) (k v j : ℕ) → P v → P (get_or l j 0) → P (get_or (set l k v) j 0)
@@ -96,7 +96,7 @@ set_keeps P (x ∷ l) (suc k) v zero p h = h
 set_keeps P (x ∷ l) (suc k) v (suc j) p h = set_keeps P l k v j p h
 
 nothing-small : (f : Bool) → Small (held_of f 0)
-unfolding held_of limbsFit
+unfolding held_of limbs_fit
 nothing-small true = fit_small (Limbs 0 0) refl
 nothing-small false = whole-small 0
 

@@ -9,7 +9,7 @@ use native.Mathlib.Omega.{arith}
 use Rattle.state.specs.Held.{Held, low_of, high_of, held_of, kept, waits, settled}
 use Rattle.state.specs.Registers.{Registers, holds, place, put}
 use Rattle.state.proofs.Normal.{held_kept}
-use Rattle.deferred.specs.Limbs.{sum_of, sumFits, sumInto}
+use Rattle.deferred.specs.Limbs.{sum_of, sum_fits, sum_into}
 use Rattle.deferred.proofs.Waiting.{fits-true}
 use Rattle.agreement.specs.Reading.{Full}
 use Rattle.agreement.specs.Statements.{SumsAreHeld, DifferencesAreHeld}
@@ -25,15 +25,15 @@ put-held : (R : Registers) (rd : ℕ) (h : Held) (b : ℕ) → Full R → rd % 1
 put-held R rd h b f z s = placed (rd % 16) (kept h) (waits h) b R z (omega (arith, f.0)) (omega (arith, f.1)) ∙ held_kept h s
 
 -- by the test that decides which sum is written
-sum-held : (rd : ℕ) (x y : Held) (b : ℕ) (R T : Registers) → Full R → Full T → rd % 16 ≢ 0 → (t : Bool) → sumFits x y ≡ t
+sum-held : (rd : ℕ) (x y : Held) (b : ℕ) (R T : Registers) → Full R → Full T → rd % 16 ≢ 0 → (t : Bool) → sum_fits x y ≡ t
     → holds (cond t (put R rd (sum_of x y) b) (put T rd (sum_of (settled x) (settled y)) b)) rd ≡ cond t (sum_of x y) (sum_of (settled x) (settled y))
 unfolding low_of
 sum-held rd x y b R T f g z true e = put-held R rd (sum_of x y) b f z (fits-true (low_of x + low_of y) (high_of x + high_of y) e).0
 sum-held rd x y b R T f g z false e = put-held T rd (sum_of (settled x) (settled y)) b g z (settled-sum x y).0
 
 pub sums-are-held : SumsAreHeld
-unfolding sumInto
-sums-are-held rd x y b R T f g z = sum-held rd x y b R T f g z (sumFits x y) refl
+unfolding sum_into
+sums-are-held rd x y b R T f g z = sum-held rd x y b R T f g z (sum_fits x y) refl
 
 pub differences-are-held : DifferencesAreHeld
 unfolding low_of

@@ -8,7 +8,7 @@ use lib.Dec.{eqb}
 use lib.ListN.{length, get_or, set, length-set}
 use Rattle.refusal.specs.declared.Refusal.{Refusal}
 use Rattle.memory.specs.Bytes.{bytes, number_at, put_at}
-use Rattle.memory.specs.Memory.{size_of, accessOf, onAccess, store_of, onStored}
+use Rattle.memory.specs.Memory.{size_of, access_of, on_access, store_of, on_stored}
 use Rattle.memory.specs.declared.Access.{Access}
 use Rattle.memory.specs.declared.Access.TheVariants.{Served, Beyond, Misaligned}
 use Rattle.memory.specs.declared.Loaded.TheVariants as L
@@ -19,15 +19,15 @@ use Rattle.state.specs.Held.{Held, Whole, Limbs, low_of, high_of, value_of, held
 use Rattle.state.specs.Registers.{Registers, holds, noted, place, put, normalise}
 use Rattle.state.proofs.Normal.{settled-whole}
 use Rattle.effect.specs.Notes.{Notes}
-use Rattle.effect.specs.Operations.{plus64, registerForm, moves, loadSize, storeSize}
-use Rattle.effect.specs.Effects.{Seen, seen, dividing, moving, onLoaded, onStorable, loading, storing, effect}
+use Rattle.effect.specs.Operations.{plus64, register_form, moves, load_size, store_size}
+use Rattle.effect.specs.Effects.{Seen, seen, dividing, moving, on_loaded, on_storable, loading, storing, effect}
 use Rattle.effect.specs.Outcomes.{Outcome, Does, Refuses}
 use Rattle.instruction.specs.declared.Instruction.{Instruction}
 use Rattle.instruction.specs.declared.Instruction.TheVariants.{Add, Sub, Addi, Mul, Divide, Op, OpImm, Move, Load, Store, Branch, Jal, Jalr, Ecall, Ebreak}
-use Rattle.deferred.specs.Limbs.{sumFits, sumInto, subtracted}
+use Rattle.deferred.specs.Limbs.{sum_fits, sum_into, subtracted}
 use Rattle.deferred.proofs.Waiting.{fits-true}
-use Rattle.execute.specs.World.{World, world, Stepped, refused, keeping, checksFor, does, done}
-use Rattle.execute.specs.Modes.{limbsIn, settleSources}
+use Rattle.execute.specs.World.{World, world, Stepped, refused, keeping, checks_for, does, done}
+use Rattle.execute.specs.Modes.{limbs_in, settle_sources}
 use Rattle.execute.specs.Execute.{onward, finish, execute}
 use Rattle.execute.specs.declared.Mode.{Mode}
 use Rattle.pending.specs.Pending.{lacks}
@@ -90,10 +90,10 @@ wide-normalise : (n : ℕ) (R : Registers) → Wide R → Wide (normalise n R)
 unfolding normalise
 wide-normalise n R h = rw (settled-whole (holds R n)) (wide-whole R n _ _ (value-wide R h n) (h.bound-fits (n % 16)) h)
 
-wide-sum : (rd : ℕ) (x y : Held) (b : ℕ) (R T : Registers) → b < 2 ^ 8 → Wide R → Wide T → Wide (sumInto rd x y b R T)
-unfolding sumInto
+wide-sum : (rd : ℕ) (x y : Held) (b : ℕ) (R T : Registers) → b < 2 ^ 8 → Wide R → Wide T → Wide (sum_into rd x y b R T)
+unfolding sum_into
 wide-sum rd x y b R T l h t =
-    cond-case Wide (sumFits x y) _ _
+    cond-case Wide (sum_fits x y) _ _
     (λ e. let s = fits-true (low_of x + low_of y) (high_of x + high_of y) e in wide-limbs R rd _ _ b (omega (arith, s.0, s.1)) l h)
     (λ _. let s = settled-sum x y in wide-limbs T rd _ _ b (omega (arith, s.0, s.1)) l t)
 
@@ -109,8 +109,8 @@ unfolding bytes
 small_put zero m at v h = h
 small_put (suc n) m at v h = small_put n (set m at (v % 256)) (suc at) (v / 256) (λ j. set_keeps (λ b. b < 256) m at (v % 256) j (omega arith) (h j))
 
-small-stored : (s : Stored) (after m : List ℕ) → Small after → Small m → Small (onStored after m s)
-unfolding onStored
+small-stored : (s : Stored) (after m : List ℕ) → Small after → Small m → Small (on_stored after m s)
+unfolding on_stored
 small-stored S.Done after m p h = p
 small-stored (S.Refused r) after m p h = h
 
@@ -120,14 +120,14 @@ Fitting m (Does e) = (e.value < 2 ^ 64) × (e.next < 2 ^ 64) × Small (keeping e
 Fitting m (Refuses r) = Unit
 
 fitting-loaded : (m : List ℕ) (f : ℕ → Outcome) (n : ℕ) (r s : Refusal) (a : Access) → Fitting m (f n)
-    → Fitting m (onLoaded f (onAccess (L.Value n) (L.Refused r) (L.Refused s) a))
-unfolding onLoaded onAccess
+    → Fitting m (on_loaded f (on_access (L.Value n) (L.Refused r) (L.Refused s) a))
+unfolding on_loaded on_access
 fitting-loaded m f n r s Served h = h
 fitting-loaded m f n r s Beyond h = tt
 fitting-loaded m f n r s Misaligned h = tt
 
-fitting-storable : (m : List ℕ) (o : Outcome) (s : Stored) → Fitting m o → Fitting m (onStorable o s)
-unfolding onStorable
+fitting-storable : (m : List ℕ) (o : Outcome) (s : Stored) → Fitting m o → Fitting m (on_storable o s)
+unfolding on_storable
 fitting-storable m o S.Done h = h
 fitting-storable m o (S.Refused r) h = tt
 
@@ -141,17 +141,17 @@ module _ (N : Notes) (v : Seen) (m : List ℕ) (pc : v.pc < 2 ^ 64) (values : (n
   effect-fitting (Divide op rd rs1 rs2) =
       cond-case (Fitting m) (eqb (v.value rs2) 0) _ _ (λ _. tt) (λ _. (divided-wide op _ _ (values rs1), omega arith, small))
   effect-fitting (Op op rd rs1 rs2) = (result-wide op _ _, omega arith, small)
-  effect-fitting (OpImm op rd rs1 imm) = (result-wide (registerForm op) _ _, omega arith, small)
+  effect-fitting (OpImm op rd rs1 imm) = (result-wide (register_form op) _ _, omega arith, small)
   effect-fitting (Move op rd rs1 rs2) =
       cond-case (Fitting m) (moves op (v.value rs2)) _ _ (λ _. (values rs1, omega arith, small)) (λ _. (omega arith, omega arith, small))
   effect-fitting (Load op rd rs1 imm) =
       let at = plus64 (v.value rs1) imm in
-      let read = number_at (size_of (loadSize op)) m at in
-      fitting-loaded m _ read _ _ (accessOf (size_of (loadSize op)) (length m) at)
-      (loaded-wide op read (read-bytes-wide (loadSize op) m at small), omega arith, small)
+      let read = number_at (size_of (load_size op)) m at in
+      fitting-loaded m _ read _ _ (access_of (size_of (load_size op)) (length m) at)
+      (loaded-wide op read (read-bytes-wide (load_size op) m at small), omega arith, small)
   effect-fitting (Store op rs1 rs2 imm) =
       let at = plus64 (v.value rs1) imm in
-      let size = storeSize op in
+      let size = store_size op in
       fitting-storable m _ (store_of size (length m) at)
       (omega arith, omega arith, small-stored (store_of size (length m) at) _ m (small_put (size_of size) m at (v.value rs2) small) small)
   effect-fitting (Branch op rs1 rs2 imm) = (omega arith, omega arith, small)
@@ -194,18 +194,18 @@ module _ (N : Notes) (c : Capped N) where
   done-in-bits room i v (Refuses r) w R p f h z = h
   done-in-bits room i v (Does e) w R p f h z =
       let bound = effect-bound N c i v w.memory e p in
-      cond-case (λ (s : Stepped). InBits s.world) (lacks room (length (checksFor e))) (refused _ w) (does e w.halted R w.memory)
+      cond-case (λ (s : Stepped). InBits s.world) (lacks room (length (checks_for e))) (refused _ w) (does e w.halted R w.memory)
       (λ _. h)
       (λ _. in-bits e.next _ _ _ f.1 (wide-whole R e.rd e.value e.bound f.0 (omega arith) z) f.2)
 
-  sum-note : (rd : ℕ) (x y : Held) (a b : ℕ) (R T : Registers) → Wide R → Wide T → Wide (sumInto rd x y (N.sum a b) R T)
+  sum-note : (rd : ℕ) (x y : Held) (a b : ℕ) (R T : Registers) → Wide R → Wide T → Wide (sum_into rd x y (N.sum a b) R T)
   sum-note rd x y a b R T = let l = c.sum a b in wide-sum rd x y (N.sum a b) R T (omega arith)
 
   execute-in-bits : (k : Mode) (room : Room) (i : Instruction) (w : World) → InBits w → InBits (execute k room N i w).world
   unfolding execute finish seen
   execute-in-bits k room i w h =
-      let l = limbsIn k N i w.registers in
-      let T = settleSources k i w.registers in
+      let l = limbs_in k N i w.registers in
+      let T = settle_sources k i w.registers in
       let settled-wide = settle-keeps Wide N wide-normalise sum-note (wide-difference N c) k i w.registers (wide w h) in
       cond-case (λ (s : Stepped). InBits s.world) l.waits (onward w l.registers) _
       (λ _. in-bits _ _ _ _ (omega arith) (limbs-keep Wide N wide-normalise sum-note (wide-difference N c) k i w.registers (wide w h)) h.bytes)

@@ -10,9 +10,9 @@ use Rattle.execute.specs.Rules.{Rules}
 use Rattle.execute.specs.declared.Mode.{Mode}
 use Rattle.execute.specs.declared.Went.{Went}
 use Rattle.execute.specs.declared.Went.TheVariants as W
-use Rattle.step.specs.Step.{Left, left, step, goesOn, counted}
+use Rattle.step.specs.Step.{Left, left, step, goes_on, counted}
 use Rattle.step.proofs.Steps.{step-taken}
-use Rattle.run.specs.Run.{Answer, answer, preceded, stopOf, run}
+use Rattle.run.specs.Run.{Answer, answer, preceded, stop_of, run}
 use Rattle.agreement.specs.Keeping.{Capped}
 use Rattle.agreement.specs.Fuel.{times, takes, StopTells, Counts}
 use Rattle.agreement.specs.Statements.{RunsAreSteps}
@@ -51,9 +51,9 @@ module _ (fuel : ℕ) (s : ℕ → Left) (start : (s 0).went ≡ W.On) where
   alone (suc i) h = absurd (omega arith)
 
   -- a refused one leaves everything as it was
-  counts-ended : (g : Went) → (s 1).went ≡ g → goesOn g ≡ false → ((r : Refusal) → g ≡ W.Refused r → ((s 1).world ≡ (s 0).world) × ((s 1).lists ≡ (s 0).lists))
-      → Counts (suc fuel) s (answer (stopOf g) (counted g) (s 1).world (s 1).lists)
-  unfolding goesOn stopOf counted StopTells
+  counts-ended : (g : Went) → (s 1).went ≡ g → goes_on g ≡ false → ((r : Refusal) → g ≡ W.Refused r → ((s 1).world ≡ (s 0).world) × ((s 1).lists ≡ (s 0).lists))
+      → Counts (suc fuel) s (answer (stop_of g) (counted g) (s 1).world (s 1).lists)
+  unfolding goes_on stop_of counted StopTells
   counts-ended W.On e f same = let z : ◌≡◌ {A = ℕ} 0 1 = cc in absurd (omega arith)
   counts-ended W.Ebreak e f same = record { before = alone; stop = e; world = refl; lists = refl }
   counts-ended W.Ecall e f same = record { before = alone; stop = e; world = refl; lists = refl }
@@ -74,7 +74,7 @@ module _ (k : Mode) (R : Rules) (c : Capped R.notes) where
       rw (run_none k R c s.world s.lists ready)
       record { before = λ i h. absurd (omega arith); stop = (refl, e); world = refl; lists = refl }
   counts (suc fuel) s e ready =
-      test-case (goesOn (again s).went)
+      test-case (goes_on (again s).went)
       (λ g.
       rw (run_on k R c s.world s.lists ready fuel g)
       (counts-later fuel (λ n. times n k R s) (λ n. times n k R (again s)) e (λ i. refl) _
@@ -85,10 +85,10 @@ module _ (k : Mode) (R : Rules) (c : Capped R.notes) where
 
   dry : (n : ℕ) (s : Left) → Ready k s.world s.lists → ((i : ℕ) → i ≤ n → (times i k R s).went ≡ W.On)
       → run k R n s.world s.lists ≡ answer S.Fuel n (times n k R s).world (times n k R s).lists
-  unfolding times goesOn
+  unfolding times goes_on
   dry zero s ready f = run_none k R c s.world s.lists ready
   dry (suc n) s ready f =
-      let g : goesOn (again s).went ≡ true = rw (f 1 (omega arith)) in
+      let g : goes_on (again s).went ≡ true = rw (f 1 (omega arith)) in
       let rest = dry n (again s) (ready_on k R c s.world s.lists ready g) (λ i h. f (suc i) (omega arith)) in
       run_on k R c s.world s.lists ready n g
       ∙ ap (preceded 1) rest

@@ -5,15 +5,15 @@ use mathlib.Core.List.{List}
 use lib.ListN.{length}
 use lib.Seq.{length-sets}
 use Rattle.memory.specs.Bytes.{bytes}
-use Rattle.memory.specs.Memory.{size_of, onStored, store_of}
+use Rattle.memory.specs.Memory.{size_of, on_stored, store_of}
 use Rattle.memory.specs.declared.Stored.{Stored}
 use Rattle.memory.specs.declared.Stored.TheVariants as S
 use Rattle.state.specs.Registers.{Registers}
 use Rattle.effect.specs.Notes.{Notes}
 use Rattle.effect.specs.Outcomes.{Stores, Nothing, Bytes, Outcome, Does, Refuses}
 use Rattle.instruction.specs.declared.Instruction.{Instruction}
-use Rattle.execute.specs.World.{World, Stepped, refused, keeping, checksFor, does, done}
-use Rattle.execute.specs.Modes.{limbsIn}
+use Rattle.execute.specs.World.{World, Stepped, refused, keeping, checks_for, does, done}
+use Rattle.execute.specs.Modes.{limbs_in}
 use Rattle.execute.specs.Execute.{onward, finish, execute}
 use Rattle.execute.specs.declared.Mode.{Mode}
 use Rattle.pending.specs.Pending.{lacks}
@@ -22,8 +22,8 @@ use Rattle.agreement.specs.Statements.{RunsKeepLength}
 use Rattle.agreement.proofs.Cases.{cond-case}
 use Rattle.agreement.proofs.Keeping.{run-keeps}
 
-length-stored : (s : Stored) (after m : List ℕ) → length after ≡ length m → length (onStored after m s) ≡ length m
-unfolding onStored
+length-stored : (s : Stored) (after m : List ℕ) → length after ≡ length m → length (on_stored after m s) ≡ length m
+unfolding on_stored
 length-stored S.Done after m e = e
 length-stored (S.Refused r) after m e = refl
 
@@ -39,14 +39,14 @@ module _ (n : ℕ) where
   unfolding done
   length-done room (Refuses r) w R h = h
   length-done room (Does e) w R h =
-      cond-case (λ (s : Stepped). Long s.world) (lacks room (length (checksFor e))) (refused _ w) (does e w.halted R w.memory)
+      cond-case (λ (s : Stepped). Long s.world) (lacks room (length (checks_for e))) (refused _ w) (does e w.halted R w.memory)
       (λ _. h)
       (λ _. length-kept e.stores w.memory ∙ h)
 
   length-execute : (N : Notes) (k : Mode) (room : Room) (i : Instruction) (w : World) → Long w → Long (execute k room N i w).world
   unfolding execute finish
   length-execute N k room i w h =
-      let l = limbsIn k N i w.registers in
+      let l = limbs_in k N i w.registers in
       cond-case (λ (s : Stepped). Long s.world) l.waits (onward w l.registers) _ (λ _. h) (λ _. length-done room _ w _ h)
 
 pub runs-keep-length : RunsKeepLength

@@ -10,29 +10,29 @@ use Rattle.state.specs.Registers.{Registers, holds, noted, place, put, normalise
 use Rattle.state.proofs.Files.{kept-settled, waits-settled, set_same}
 use Rattle.state.proofs.Normal.{held_kept}
 use Rattle.effect.specs.Effects.{seen}
-use Rattle.deferred.specs.Sources.{sources, normaliseEach}
-use Rattle.execute.specs.Modes.{settleSources}
+use Rattle.deferred.specs.Sources.{sources, normalise_each}
+use Rattle.execute.specs.Modes.{settle_sources}
 use Rattle.execute.specs.declared.Mode.{Mode}
 use Rattle.execute.specs.declared.Mode.TheVariants.{Plain, Deferred}
 use Rattle.instruction.specs.declared.Instruction.{Instruction}
-use Rattle.agreement.specs.Reading.{readValues, noMarks, read_all, Sized}
+use Rattle.agreement.specs.Reading.{read_values, no_marks, read_all, Sized}
 
-abbrev valueIn : List ℕ → List Bool → ℕ → ℕ
-valueIn vs fs j = value_of (held_of (get_or fs j false) (get_or vs j 0))
+abbrev value_in : List ℕ → List Bool → ℕ → ℕ
+value_in vs fs j = value_of (held_of (get_or fs j false) (get_or vs j 0))
 
 nothing : (f : Bool) → value_of (held_of f 0) ≡ 0
 unfolding value_of held_of
 nothing true = refl
 nothing false = refl
 
-pub no-mark : (fs : List Bool) (j : ℕ) → get_or (noMarks fs) j false ≡ false
-unfolding noMarks
+pub no-mark : (fs : List Bool) (j : ℕ) → get_or (no_marks fs) j false ≡ false
+unfolding no_marks
 no-mark [] j = refl
 no-mark (f ∷ fs) zero = refl
 no-mark (f ∷ fs) (suc j) = no-mark fs j
 
-value_read : (vs : List ℕ) (fs : List Bool) (j : ℕ) → get_or (readValues vs fs) j 0 ≡ valueIn vs fs j
-unfolding readValues value_of held_of
+value_read : (vs : List ℕ) (fs : List Bool) (j : ℕ) → get_or (read_values vs fs) j 0 ≡ value_in vs fs j
+unfolding read_values value_of held_of
 value_read [] fs j = sym (nothing (get_or fs j false))
 value_read (v ∷ vs) [] zero = refl
 value_read (v ∷ vs) [] (suc j) = value_read vs [] j
@@ -49,20 +49,20 @@ unfolding seen value_of
 seen_read pc R = ap (λ (f : ℕ → ℕ). record { pc = pc; value = f; bound = λ n. noted R n }) (fun_ext (λ n. rw (read_held R n)))
 
 -- ---- a write, in the lists
-marks-set : (fs : List Bool) (k : ℕ) (f : Bool) → noMarks (set fs k f) ≡ noMarks fs
-unfolding noMarks
+marks-set : (fs : List Bool) (k : ℕ) (f : Bool) → no_marks (set fs k f) ≡ no_marks fs
+unfolding no_marks
 marks-set [] k f = refl
 marks-set (g ∷ fs) zero f = refl
 marks-set (g ∷ fs) (suc k) f = ap (λ (l : List Bool). false ∷ l) (marks-set fs k f)
 
-marks_stay : (fs : List Bool) (k : ℕ) → set (noMarks fs) k false ≡ noMarks fs
-unfolding noMarks
+marks_stay : (fs : List Bool) (k : ℕ) → set (no_marks fs) k false ≡ no_marks fs
+unfolding no_marks
 marks_stay [] k = refl
 marks_stay (f ∷ fs) zero = refl
 marks_stay (f ∷ fs) (suc k) = ap (λ (l : List Bool). false ∷ l) (marks_stay fs k)
 
-whole_set : (vs : List ℕ) (fs : List Bool) (k v : ℕ) → readValues (set vs k v) (set fs k false) ≡ set (readValues vs fs) k v
-unfolding readValues value_of held_of
+whole_set : (vs : List ℕ) (fs : List Bool) (k v : ℕ) → read_values (set vs k v) (set fs k false) ≡ set (read_values vs fs) k v
+unfolding read_values value_of held_of
 whole_set [] fs k v = refl
 whole_set (x ∷ vs) [] zero v = refl
 whole_set (x ∷ vs) [] (suc k) v = ap (λ (l : List ℕ). x ∷ l) (whole_set vs [] k v)
@@ -70,8 +70,8 @@ whole_set (x ∷ vs) (f ∷ fs) zero v = refl
 whole_set (x ∷ vs) (f ∷ fs) (suc k) v = ap (λ (l : List ℕ). value_of (held_of f x) ∷ l) (whole_set vs fs k v)
 
 held-set : (vs : List ℕ) (fs : List Bool) (k v : ℕ) (f : Bool) → k < length fs
-    → readValues (set vs k v) (set fs k f) ≡ set (readValues vs fs) k (value_of (held_of f v))
-unfolding readValues
+    → read_values (set vs k v) (set fs k f) ≡ set (read_values vs fs) k (value_of (held_of f v))
+unfolding read_values
 held-set [] fs k v f h = refl
 held-set (x ∷ vs) [] k v f h = absurd (omega arith)
 held-set (x ∷ vs) (g ∷ fs) zero v f h = refl
@@ -99,10 +99,10 @@ unfolding kept waits
 read-put R rd x b h z = read-place (rd % 16) _ _ b R (omega arith) z ∙ rw (held_kept x h)
 
 -- ---- normalising
-same_set : (vs : List ℕ) (fs : List Bool) (k : ℕ) → readValues (set vs k (valueIn vs fs k)) (set fs k false) ≡ readValues vs fs
-same_set vs fs k = whole_set vs fs k _ ∙ rw (← value_read vs fs k) (set_same (readValues vs fs) k 0)
+same_set : (vs : List ℕ) (fs : List Bool) (k : ℕ) → read_values (set vs k (value_in vs fs k)) (set fs k false) ≡ read_values vs fs
+same_set vs fs k = whole_set vs fs k _ ∙ rw (← value_read vs fs k) (set_same (read_values vs fs) k 0)
 
-read-place-same : (k : ℕ) (R : Registers) → read_all (place k (valueIn R.values R.accumulated k) false (get_or R.bounds k 0) R) ≡ read_all R
+read-place-same : (k : ℕ) (R : Registers) → read_all (place k (value_in R.values R.accumulated k) false (get_or R.bounds k 0) R) ≡ read_all R
 unfolding place
 read-place-same zero R = refl
 read-place-same (suc k) R = rw (same_set, marks-set, set_same R.bounds (suc k) 0)
@@ -111,12 +111,12 @@ pub read-normalise : (n : ℕ) (R : Registers) → read_all (normalise n R) ≡ 
 unfolding normalise
 read-normalise n R = rw (kept-settled (holds R n), waits-settled (holds R n)) (read-place-same (n % 16) R)
 
-read-each : (ns : List ℕ) (R : Registers) → read_all (normaliseEach ns R) ≡ read_all R
-unfolding normaliseEach
+read-each : (ns : List ℕ) (R : Registers) → read_all (normalise_each ns R) ≡ read_all R
+unfolding normalise_each
 read-each [] R = refl
 read-each (n ∷ ns) R = read-each ns (normalise n R) ∙ read-normalise n R
 
-pub read-settle : (k : Mode) (i : Instruction) (R : Registers) → read_all (settleSources k i R) ≡ read_all R
-unfolding settleSources
+pub read-settle : (k : Mode) (i : Instruction) (R : Registers) → read_all (settle_sources k i R) ≡ read_all R
+unfolding settle_sources
 read-settle Plain i R = refl
 read-settle Deferred i R = read-each (sources i) R

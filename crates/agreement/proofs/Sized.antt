@@ -7,7 +7,7 @@ use Rattle.state.specs.Registers.{Registers, place, put, normalise}
 use Rattle.effect.specs.Notes.{Notes}
 use Rattle.instruction.specs.declared.Instruction.{Instruction}
 use Rattle.execute.specs.World.{World}
-use Rattle.deferred.specs.Limbs.{sum_of, sumFits, sumInto}
+use Rattle.deferred.specs.Limbs.{sum_of, sum_fits, sum_into}
 use Rattle.execute.specs.Execute.{execute}
 use Rattle.pending.specs.declared.Room.{Room}
 use Rattle.execute.specs.declared.Mode.{Mode}
@@ -27,10 +27,10 @@ pub sized-normalise : (n : ℕ) (R : Registers) → Sized R → Sized (normalise
 unfolding normalise
 sized-normalise n R z = sized-put R n _ _ z
 
-sized-sum : (rd : ℕ) (x y : Held) (b : ℕ) (R T : Registers) → Sized R → Sized T → Sized (sumInto rd x y b R T)
-unfolding sumInto
+sized-sum : (rd : ℕ) (x y : Held) (b : ℕ) (R T : Registers) → Sized R → Sized T → Sized (sum_into rd x y b R T)
+unfolding sum_into
 sized-sum rd x y b R T z u =
-    cond-case (λ (S : Registers). Sized S) (sumFits x y) (put R rd (sum_of x y) b) (put T rd (sum_of (settled x) (settled y)) b)
+    cond-case (λ (S : Registers). Sized S) (sum_fits x y) (put R rd (sum_of x y) b) (put T rd (sum_of (settled x) (settled y)) b)
     (λ _. sized-put R rd _ b z)
     (λ _. sized-put T rd _ b u)
 

@@ -5,10 +5,10 @@ use mathlib.Core.Bool.{Bool, true}
 use native.Mathlib.Omega.{arith}
 use Rattle.state.specs.Held.{Held, low_of, high_of, settled}
 use Rattle.state.specs.Registers.{Registers}
-use Rattle.state.specs.Formed.{wellFormed}
+use Rattle.state.specs.Formed.{well_formed}
 use Rattle.effect.specs.Notes.{Notes}
 use Rattle.execute.specs.World.{World}
-use Rattle.deferred.specs.Limbs.{sum_of, sumFits, sumInto, subtracted}
+use Rattle.deferred.specs.Limbs.{sum_of, sum_fits, sum_into, subtracted}
 use Rattle.execute.specs.Execute.{execute}
 use Rattle.pending.specs.declared.Room.{Room}
 use Rattle.execute.specs.declared.Mode.{Mode}
@@ -23,10 +23,10 @@ use Rattle.agreement.proofs.Capped.{effect-bound}
 use Rattle.agreement.proofs.Keeping.{execute-keeps, step_keeps, run-keeps}
 
 -- a sum that fits, or one of normalised limbs, which are below 2^20
-formed-sum : (rd : ℕ) (x y : Held) (b : ℕ) (R T : Registers) → b ≤ 64 → Formed R → Formed T → Formed (sumInto rd x y b R T)
-unfolding sumInto low_of high_of
+formed-sum : (rd : ℕ) (x y : Held) (b : ℕ) (R T : Registers) → b ≤ 64 → Formed R → Formed T → Formed (sum_into rd x y b R T)
+unfolding sum_into low_of high_of
 formed-sum rd x y b R T l h t =
-    cond-case Formed (sumFits x y) _ _
+    cond-case Formed (sum_fits x y) _ _
     (λ e. formed-put R rd (sum_of x y) b (fits-true _ _ e) l h)
     (λ _. formed-put T rd (sum_of (settled x) (settled y)) b (settled-sum x y) l t)
 
@@ -47,7 +47,7 @@ pub formed-after : InstructionsKeep
 formed-after N c k room i w e = well-formed _ (formed-execute N c k room i w (formed w.registers e))
 
 pub formed-after-step : StepsKeep
-formed-after-step R c k = step_keeps (λ w. wellFormed w.registers ≡ true) k R (formed-after R.notes c k)
+formed-after-step R c k = step_keeps (λ w. well_formed w.registers ≡ true) k R (formed-after R.notes c k)
 
 pub formed-after-run : RunsKeep
-formed-after-run R c k = run-keeps (λ w. wellFormed w.registers ≡ true) k R (formed-after R.notes c k)
+formed-after-run R c k = run-keeps (λ w. well_formed w.registers ≡ true) k R (formed-after R.notes c k)

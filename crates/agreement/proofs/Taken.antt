@@ -9,7 +9,7 @@ use native.Mathlib.Omega.{arith}
 use borrow.Author.Tests.{ltb-true, eq-eqb, le-leb}
 use Rattle.state.specs.Held.{Whole, kept, waits}
 use Rattle.state.specs.Registers.{Registers, place, put}
-use Rattle.state.specs.Formed.{all_below, allWhole}
+use Rattle.state.specs.Formed.{all_below, all_whole}
 use Rattle.effect.specs.Notes.{Notes}
 use Rattle.instruction.specs.declared.Instruction.{Instruction}
 use Rattle.execute.specs.World.{World}
@@ -17,10 +17,10 @@ use Rattle.execute.specs.Execute.{execute, admits}
 use Rattle.execute.specs.Rules.{Rules}
 use Rattle.execute.specs.declared.Mode.{Mode}
 use Rattle.execute.specs.declared.Mode.TheVariants.{Plain, Deferred}
-use Rattle.pending.specs.Pending.{Lists, lists, Check, listsFit, roomOf, appended, listing}
+use Rattle.pending.specs.Pending.{Lists, lists, Check, lists_fit, room_of, appended, listing}
 use Rattle.pending.specs.declared.Room.{Room}
 use Rattle.pending.proofs.Lists.{fits-mean}
-use Rattle.step.specs.Step.{stepIn, step_of}
+use Rattle.step.specs.Step.{step_in, step_of}
 use Rattle.run.specs.Run.{run}
 use Rattle.agreement.specs.Keeping.{Capped}
 use Rattle.agreement.specs.Fuel.{takes}
@@ -42,18 +42,18 @@ unmarked-set (f ∷ fs) zero (suc j) e = e
 unmarked-set (f ∷ fs) (suc k) zero e = e
 unmarked-set (f ∷ fs) (suc k) (suc j) e = unmarked-set fs k j e
 
-whole-place : (k v b : ℕ) (R : Registers) → allWhole R.accumulated ≡ true → allWhole (place k v false b R).accumulated ≡ true
-unfolding place allWhole
+whole-place : (k v b : ℕ) (R : Registers) → all_whole R.accumulated ≡ true → all_whole (place k v false b R).accumulated ≡ true
+unfolding place all_whole
 whole-place zero v b R e = e
 whole-place (suc k) v b R e = all_alike _ _ 16 (λ j. unmarked-set R.accumulated (suc k) j) e
 
-whole-put : (R : Registers) (rd v b : ℕ) → allWhole R.accumulated ≡ true → allWhole (put R rd (Whole v) b).accumulated ≡ true
+whole-put : (R : Registers) (rd v b : ℕ) → all_whole R.accumulated ≡ true → all_whole (put R rd (Whole v) b).accumulated ≡ true
 unfolding kept waits
 whole-put R rd v b e = whole-place _ v b R e
 
 whole-after : (N : Notes) (room : Room) (i : Instruction) (w : World)
-    → allWhole w.registers.accumulated ≡ true → allWhole (execute Plain room N i w).world.registers.accumulated ≡ true
-whole-after N = plain-keeps (λ (S : Registers). allWhole S.accumulated ≡ true) N (λ i v m e R p. whole-put R e.rd e.value e.bound)
+    → all_whole w.registers.accumulated ≡ true → all_whole (execute Plain room N i w).world.registers.accumulated ≡ true
+whole-after N = plain-keeps (λ (S : Registers). all_whole S.accumulated ≡ true) N (λ i v m e R p. whole-put R e.rd e.value e.bound)
 
 admits-after : (N : Notes) → Capped N → (k : Mode) (room : Room) (i : Instruction) (w : World)
     → admits k w.registers ≡ true → admits k (execute k room N i w).world.registers ≡ true
@@ -71,20 +71,20 @@ admits-after-run R c k = run-keeps (Admitted k) k R (admits-after R.notes c k)
 
 -- ---- the lists
 -- one more entry, where there is a place for it
-one_more : (v b pc : ℕ) (l : Lists) → l.count < length l.values → listsFit l ≡ true
-    → listsFit (lists (l.count + 1) (set l.values l.count v) (set l.bounds l.count b) (set l.pcs l.count pc)) ≡ true
+one_more : (v b pc : ℕ) (l : Lists) → l.count < length l.values → lists_fit l ≡ true
+    → lists_fit (lists (l.count + 1) (set l.values l.count v) (set l.bounds l.count b) (set l.pcs l.count pc)) ≡ true
 one_more v b pc l h e =
     let t = fits-mean l e in
     simp length-set (rw (eq-eqb _ _ t.0, eq-eqb _ _ t.1) (le-leb (l.count + 1) (length l.values) (omega arith)))
 
-appended-fits : (v b pc : ℕ) (l : Lists) → listsFit l ≡ true → listsFit (appended v b pc l) ≡ true
+appended-fits : (v b pc : ℕ) (l : Lists) → lists_fit l ≡ true → lists_fit (appended v b pc l) ≡ true
 unfolding appended
 appended-fits v b pc l e =
-    cond-case (λ (m : Lists). listsFit m ≡ true) (ltb l.count (length l.values)) _ l
+    cond-case (λ (m : Lists). lists_fit m ≡ true) (ltb l.count (length l.values)) _ l
     (λ room. one_more v b pc l (ltb-true _ _ room) e)
     (λ _. e)
 
-listing-fits : (cs : List Check) (pc : ℕ) (l : Lists) → listsFit l ≡ true → listsFit (listing cs pc l) ≡ true
+listing-fits : (cs : List Check) (pc : ℕ) (l : Lists) → lists_fit l ≡ true → lists_fit (listing cs pc l) ≡ true
 unfolding listing
 listing-fits [] pc l e = e
 listing-fits (c ∷ cs) pc l e = listing-fits cs pc _ (appended-fits c.value c.bound pc l e)
@@ -94,4 +94,4 @@ pub takes-kept : (k : Mode) (R : Rules) → Capped R.notes → (w : World) (l : 
 unfolding step_of
 takes-kept k R c w l e =
     let t = both_true _ _ e in
-    rw (inner-step-keeps (Admitted k) k R (admits-after R.notes c k) w l t.0) (listing-fits (stepIn k (roomOf l) R w).checks w.pc l t.1)
+    rw (inner-step-keeps (Admitted k) k R (admits-after R.notes c k) w l t.0) (listing-fits (step_in k (room_of l) R w).checks w.pc l t.1)

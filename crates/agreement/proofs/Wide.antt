@@ -16,7 +16,7 @@ use borrow.Author.Tests.{ltb-false}
 use Rattle.encoding.specs.Fields.{extended}
 use Rattle.encoding.proofs.Extends.{fits-means, extended_fits}
 use Rattle.value.specs.Forty.{low40, shl40, modulo40, sra40, signed40, slt40, ult40}
-use Rattle.value.specs.Division.{div_of, remOf}
+use Rattle.value.specs.Division.{div_of, rem_of}
 use Rattle.value.proofs.Shifts.{shr-small}
 use Rattle.memory.specs.Bytes.{bit, number_at}
 use Rattle.memory.specs.Memory.{size_of}
@@ -55,7 +55,7 @@ read_wide n h = by (ltb n (2 ^ 63)) refl
     by false e = rw e (omega (arith, ltb-false n (2 ^ 63) e))
 
 pub divided-wide : (op : Division) (a b : ℕ) → a < 2 ^ 64 → divided op a b < 2 ^ 64
-unfolding divided div_of remOf
+unfolding divided div_of rem_of
 divided-wide Div a b h = quot-wide (to_z w64 a) (to_z w64 b) (read_wide a h)
 divided-wide Divu a b h = omega (arith, div-le_self a b)
 divided-wide Rem a b h = rem_wide (to_z w64 a) (to_z w64 b) (read_wide a h)

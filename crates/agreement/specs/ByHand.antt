@@ -12,14 +12,14 @@ use seplogic.Ra.Ura.{Ura}
 use prog.Memory.{Memory}
 use prog.Routine.{Routine}
 use Rattle.state.specs.declared.State.{State}
-use Rattle.execute.specs.World.{worldOf}
-use Rattle.execute.specs.Rules.{rulesOf}
+use Rattle.execute.specs.World.{world_of}
+use Rattle.execute.specs.Rules.{rules_of}
 use Rattle.step.specs.Step.{left, step}
 use Rattle.checks.specs.Records.{listed}
 use Rattle.checks.specs.declared.Pending.{Pending}
-use Rattle.checked.specs.Machine.{steppedOver}
+use Rattle.checked.specs.Machine.{stepped_over}
 use Rattle.checked.specs.contracts.step as checked·step
-use Rattle.lent.specs.Lent.{lentStep, stepLent}
+use Rattle.lent.specs.Lent.{lent_step, step_lent}
 use Rattle.lent.specs.declared.exported.Lent.{Lent}
 use Rattle.lent.specs.contracts.step_in_place
 use Rattle.lent.specs.contracts.exported.zkir_step
@@ -47,38 +47,38 @@ changeable s m l n = record { state = s; memory = m; list = l; count = n }
 -- ---- `checked::step`: choices, state, memory, list, count
 abbrev pub steps : Telling checked·step.ended
 steps κs a r e =
-    steppedOver r e.1.1.0.now e.1.1.1.0.now
-    ≡ step a.0.mode (rulesOf a.0) (worldOf a.1.0 a.1.1.0.now) (listed a.1.1.1.1.0 a.1.1.1.0.now)
+    stepped_over r e.1.1.0.now e.1.1.1.0.now
+    ≡ step a.0.mode (rules_of a.0) (world_of a.1.0 a.1.1.0.now) (listed a.1.1.1.1.0 a.1.1.1.0.now)
 
 module _ (κs : Lfts 2) (a : Args checked·step.signature κs) where
-  abbrev pub recordsGiven : Changeable State
-  recordsGiven = changeable a.1.0 a.1.1.0.now a.1.1.1.0.now a.1.1.1.1.0
+  abbrev pub records_given : Changeable State
+  records_given = changeable a.1.0 a.1.1.0.now a.1.1.1.0.now a.1.1.1.1.0
 
-  abbrev pub recordsAfter : Leaves checked·step.ended κs a → Changeable State
-  recordsAfter x = changeable x.0.state x.1.1.1.0 x.1.1.1.1.0 x.0.count
+  abbrev pub records_after : Leaves checked·step.ended κs a → Changeable State
+  records_after x = changeable x.0.state x.1.1.1.0 x.1.1.1.1.0 x.0.count
 
 -- ---- `lent::step_in_place`: state, choices, memory, list, count
-abbrev pub stepsInPlace : Telling step_in_place.ended
-stepsInPlace κs a r e =
-    left r.went (worldOf e.0.now e.1.1.0.now) (listed r.count e.1.1.1.0.now)
-    ≡ step a.1.0.mode (rulesOf a.1.0) (worldOf a.0.now a.1.1.0.now) (listed a.1.1.1.1.0 a.1.1.1.0.now)
+abbrev pub steps_in_place : Telling step_in_place.ended
+steps_in_place κs a r e =
+    left r.went (world_of e.0.now e.1.1.0.now) (listed r.count e.1.1.1.0.now)
+    ≡ step a.1.0.mode (rules_of a.1.0) (world_of a.0.now a.1.1.0.now) (listed a.1.1.1.1.0 a.1.1.1.0.now)
 
 module _ (κs : Lfts 3) (a : Args step_in_place.signature κs) where
-  abbrev pub placeGiven : Changeable State
-  placeGiven = changeable a.0.now a.1.1.0.now a.1.1.1.0.now a.1.1.1.1.0
+  abbrev pub place_given : Changeable State
+  place_given = changeable a.0.now a.1.1.0.now a.1.1.1.0.now a.1.1.1.1.0
 
-  abbrev pub placeAfter : Leaves step_in_place.ended κs a → Changeable State
-  placeAfter x = changeable x.1.0 x.1.1.1.0 x.1.1.1.1.0 x.0.count
+  abbrev pub place_after : Leaves step_in_place.ended κs a → Changeable State
+  place_after x = changeable x.1.0 x.1.1.1.0 x.1.1.1.1.0 x.0.count
 
 -- ---- `lent::exported::zkir_step`: state, memory, list, count, mode
-abbrev pub stepsLent : Telling zkir_step.ended
-stepsLent κs a r e =
-    lentStep r e.0.now e.1.0.now (listed r.count e.1.1.0.now)
-    ≡ stepLent a.1.1.1.1.0 a.0.now a.1.0.now (listed a.1.1.1.0 a.1.1.0.now)
+abbrev pub steps_lent : Telling zkir_step.ended
+steps_lent κs a r e =
+    lent_step r e.0.now e.1.0.now (listed r.count e.1.1.0.now)
+    ≡ step_lent a.1.1.1.1.0 a.0.now a.1.0.now (listed a.1.1.1.0 a.1.1.0.now)
 
 module _ (κs : Lfts 3) (a : Args zkir_step.signature κs) where
-  abbrev pub lentGiven : Changeable Lent
-  lentGiven = changeable a.0.now a.1.0.now a.1.1.0.now a.1.1.1.0
+  abbrev pub lent_given : Changeable Lent
+  lent_given = changeable a.0.now a.1.0.now a.1.1.0.now a.1.1.1.0
 
-  abbrev pub lentAfter : Leaves zkir_step.ended κs a → Changeable Lent
-  lentAfter x = changeable x.1.0 x.1.1.0 x.1.1.1.0 x.0.count
+  abbrev pub lent_after : Leaves zkir_step.ended κs a → Changeable Lent
+  lent_after x = changeable x.1.0 x.1.1.0 x.1.1.1.0 x.0.count

@@ -3,12 +3,12 @@ use Rattle.std.specs.Prelude.{ℕ, List}
 use contract.Lifetimes.{Lfts}
 use denote.Triple.Entry.{Args, Res}
 use denote.Triple.Clauses.{Ended, Lasts, AtExit, at_exit}
-use Rattle.execute.specs.World.{World, worldOf, Stepped}
+use Rattle.execute.specs.World.{World, world_of, Stepped}
 use Rattle.execute.specs.declared.Mode.{Mode}
 use Rattle.execute.specs.declared.Mode.TheVariants.{Plain, Deferred}
 use Rattle.pending.specs.Pending.{Lists, lists}
 use Rattle.given.specs.Given.{executed}
-use Rattle.step.specs.Step.{Left, oneStep}
+use Rattle.step.specs.Step.{Left, one_step}
 use Rattle.run.specs.Run.{Answer, ran}
 use Rattle.host.specs.Call.{Called, called}
 use Rattle.given.specs.contracts.execute as given·execute
@@ -33,42 +33,42 @@ module _ (T : Ended) where
 
 -- a run's arguments, which are the same for both: state, fuel, memory, values, bounds, pcs, count
 module _ (κs : Lfts 4) (a : Args run_plain.signature κs) where
-  abbrev pub worldGiven : World
-  worldGiven = worldOf a.0 a.1.1.0.now
+  abbrev pub world_given : World
+  world_given = world_of a.0 a.1.1.0.now
 
-  abbrev pub fuelGiven : ℕ
-  fuelGiven = a.1.0
+  abbrev pub fuel_given : ℕ
+  fuel_given = a.1.0
 
-  abbrev pub listsGiven : Lists
-  listsGiven = lists a.1.1.1.1.1.1.0 a.1.1.1.0.now a.1.1.1.1.0.now a.1.1.1.1.1.0.now
+  abbrev pub lists_given : Lists
+  lists_given = lists a.1.1.1.1.1.1.0 a.1.1.1.0.now a.1.1.1.1.0.now a.1.1.1.1.1.0.now
 
   -- and what it leaves
-  abbrev pub ranTo : Leaves run_plain.ended κs a → Answer
-  ranTo x = ran x.0 x.1.1.1.0 x.1.1.1.1.0 x.1.1.1.1.1.0 x.1.1.1.1.1.1.0
+  abbrev pub ran_to : Leaves run_plain.ended κs a → Answer
+  ran_to x = ran x.0 x.1.1.1.0 x.1.1.1.1.0 x.1.1.1.1.1.0 x.1.1.1.1.1.1.0
 
 -- what the contract of each mode's run tells
-unfoldable pub toldBy : Mode → Telling run_plain.ended
-toldBy Plain = run_plain.Reads.Learnt
-toldBy Deferred = run_deferred.Reads.Learnt
+unfoldable pub told_by : Mode → Telling run_plain.ended
+told_by Plain = run_plain.Reads.Learnt
+told_by Deferred = run_deferred.Reads.Learnt
 
 -- a single step: choices, state, memory, values, bounds, pcs, count
 module _ (κs : Lfts 4) (a : Args step·step.signature κs) where
-  abbrev pub worldStepped : World
-  worldStepped = worldOf a.1.0 a.1.1.0.now
+  abbrev pub world_stepped : World
+  world_stepped = world_of a.1.0 a.1.1.0.now
 
-  abbrev pub listsStepped : Lists
-  listsStepped = lists a.1.1.1.1.1.1.0 a.1.1.1.0.now a.1.1.1.1.0.now a.1.1.1.1.1.0.now
+  abbrev pub lists_stepped : Lists
+  lists_stepped = lists a.1.1.1.1.1.1.0 a.1.1.1.0.now a.1.1.1.1.0.now a.1.1.1.1.1.0.now
 
-  abbrev pub steppedTo : Leaves step·step.ended κs a → Left
-  steppedTo x = oneStep x.0 x.1.1.1.0 x.1.1.1.1.0 x.1.1.1.1.1.0 x.1.1.1.1.1.1.0
+  abbrev pub stepped_to : Leaves step·step.ended κs a → Left
+  stepped_to x = one_step x.0 x.1.1.1.0 x.1.1.1.1.0 x.1.1.1.1.1.0 x.1.1.1.1.1.1.0
 
 -- one given instruction: choices, instruction, state, memory
 module _ (κs : Lfts 1) (a : Args given·execute.signature κs) where
-  abbrev pub worldExecuted : World
-  worldExecuted = worldOf a.1.1.0 a.1.1.1.0.now
+  abbrev pub world_executed : World
+  world_executed = world_of a.1.1.0 a.1.1.1.0.now
 
-  abbrev pub executedTo : Leaves given·execute.ended κs a → Stepped
-  executedTo x = executed x.0 x.1.1.1.1.0
+  abbrev pub executed_to : Leaves given·execute.ended κs a → Stepped
+  executed_to x = executed x.0 x.1.1.1.1.0
 
 -- the host's call: state, memory and answer bytes, fuel, and then the mode
 pub record CallGiven : Type 0 where
@@ -78,11 +78,11 @@ pub record CallGiven : Type 0 where
   pub fuel : ℕ
 
 module _ (κs : Lfts 3) (a : Args zkir_run.signature κs) where
-  abbrev pub callGiven : CallGiven
-  callGiven = record { state = a.0.now; memory = a.1.0.now; answer = a.1.1.0.now; fuel = a.1.1.1.0 }
+  abbrev pub call_given : CallGiven
+  call_given = record { state = a.0.now; memory = a.1.0.now; answer = a.1.1.0.now; fuel = a.1.1.1.0 }
 
-  abbrev pub modeGiven : ℕ
-  modeGiven = a.1.1.1.1.0
+  abbrev pub mode_given : ℕ
+  mode_given = a.1.1.1.1.0
 
-  abbrev pub calledTo : Leaves zkir_run.ended κs a → Called
-  calledTo x = called x.0 x.1.0 x.1.1.0 x.1.1.1.0
+  abbrev pub called_to : Leaves zkir_run.ended κs a → Called
+  called_to x = called x.0 x.1.0 x.1.1.0 x.1.1.1.0

@@ -1,6 +1,6 @@
 -- A run's steps and its fuel, by the single step taken over and over.
 use Rattle.std.specs.Prelude.{ℕ, zero, suc, ◌≤◌, ◌<◌, ◌≡◌, Bool, true, false, cond, ◌&&◌}
-use Rattle.refusal.specs.Stops.{refusalOf}
+use Rattle.refusal.specs.Stops.{refusal_of}
 use Rattle.refusal.specs.declared.Stop.{Stop}
 use Rattle.refusal.specs.declared.Stop.TheVariants as S
 use Rattle.execute.specs.World.{World}
@@ -8,7 +8,7 @@ use Rattle.execute.specs.Execute.{admits}
 use Rattle.execute.specs.Rules.{Rules}
 use Rattle.execute.specs.declared.Mode.{Mode}
 use Rattle.execute.specs.declared.Went.TheVariants as W
-use Rattle.pending.specs.Pending.{Lists, listsFit}
+use Rattle.pending.specs.Pending.{Lists, lists_fit}
 use Rattle.step.specs.Step.{Left, left, step}
 use Rattle.run.specs.Run.{Answer, answer, preceded}
 
@@ -23,7 +23,7 @@ nth k R w l n = times n k R (left W.On w l)
 
 -- "A run tests 9 first"
 abbrev pub takes : Mode → World → Lists → Bool
-takes k w l = admits k w.registers && listsFit l
+takes k w l = admits k w.registers && lists_fit l
 
 -- what a run's stop says of its last step, the n-th, and of the next; s i is the i-th
 unfoldable pub StopTells : ℕ → (ℕ → Left) → ℕ → Stop → Type 0
@@ -41,7 +41,7 @@ pub record Counts (fuel : ℕ) (s : ℕ → Left) (a : Answer) : Type 0 where
 
 -- the answer a of a run from w and l, told by the single steps: one that is malformed or halted takes none, whatever the fuel
 pub record BySteps (k : Mode) (R : Rules) (fuel : ℕ) (w : World) (l : Lists) (a : Answer) : Type 0 where
-  pub malformed : takes k w l ≡ false → a ≡ answer (S.Refused (refusalOf 9 0)) 0 w l
+  pub malformed : takes k w l ≡ false → a ≡ answer (S.Refused (refusal_of 9 0)) 0 w l
   pub halted : takes k w l ≡ true → w.halted ≡ true → a ≡ answer S.Ebreak 0 w l
   pub counts : takes k w l ≡ true → w.halted ≡ false → Counts fuel (nth k R w l) a
   -- the other way: as long as steps go on, fuel alone stops
@@ -49,12 +49,12 @@ pub record BySteps (k : Mode) (R : Rules) (fuel : ℕ) (w : World) (l : Lists) (
       → a ≡ answer S.Fuel fuel (nth k R w l fuel).world (nth k R w l fuel).lists
 
 -- whether a run may go on with more fuel
-unfoldable pub ranDry : Stop → Bool
-ranDry S.Fuel = true
-ranDry S.Ebreak = false
-ranDry S.Ecall = false
-ranDry (S.Refused r) = false
+unfoldable pub ran_dry : Stop → Bool
+ran_dry S.Fuel = true
+ran_dry S.Ebreak = false
+ran_dry S.Ecall = false
+ran_dry (S.Refused r) = false
 
 -- the run that answers a, and then, where it stopped on fuel, the one that answers b: the steps of both, and what the second leaves
 unfoldable pub continued : Answer → Answer → Answer
-continued a b = cond (ranDry a.stop) (preceded a.steps b) a
+continued a b = cond (ran_dry a.stop) (preceded a.steps b) a

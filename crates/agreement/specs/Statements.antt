@@ -6,37 +6,37 @@ use borrow.Fn.Kinds.{GoodsP}
 use Rattle.refusal.specs.declared.Refusal.{Refusal}
 use Rattle.state.specs.Held.{Held, Limbs, low_of, high_of, normal, settled}
 use Rattle.state.specs.Registers.{Registers, holds, normalise}
-use Rattle.state.specs.Formed.{wellFormed, allWhole, registersOf}
+use Rattle.state.specs.Formed.{well_formed, all_whole, registers_of}
 use Rattle.normalize.proofs.normalize_register
 use Rattle.effect.specs.Notes.{Notes}
 use Rattle.instruction.specs.declared.Instruction.{Instruction}
-use Rattle.deferred.specs.Limbs.{sum_of, sumFits, sumInto, subtracted}
+use Rattle.deferred.specs.Limbs.{sum_of, sum_fits, sum_into, subtracted}
 use Rattle.execute.specs.World.{World}
 use Rattle.execute.specs.Execute.{execute, admits}
 use Rattle.execute.specs.declared.Mode.{Mode}
 use Rattle.execute.specs.declared.Mode.TheVariants.{Plain, Deferred}
 use Rattle.execute.specs.declared.Went.TheVariants as W
-use Rattle.pending.specs.Pending.{Lists, noLists}
+use Rattle.pending.specs.Pending.{Lists, no_lists}
 use Rattle.pending.specs.declared.Room.{Room}
 use Rattle.pending.specs.declared.Room.TheVariants.{Unlent}
-use Rattle.execute.specs.Rules.{Rules, documentRules}
-use Rattle.given.specs.Given.{executeOne}
+use Rattle.execute.specs.Rules.{Rules, document_rules}
+use Rattle.given.specs.Given.{execute_one}
 use Rattle.given.proofs.execute as given·execute
 use Rattle.step.specs.Step.{step}
 use Rattle.step.proofs.step as step·step
 use Rattle.run.specs.Run.{run}
 use Rattle.run.proofs.run_plain
 use Rattle.run.proofs.run_deferred
-use Rattle.layout.specs.Layout.{stateIn}
-use Rattle.host.specs.Call.{callTaken, call_of}
+use Rattle.layout.specs.Layout.{state_in}
+use Rattle.host.specs.Call.{call_taken, call_of}
 use Rattle.host.proofs.zkir_run
 use Rattle.checked.specs.contracts.step as checked·step
 use Rattle.lent.specs.contracts.step_in_place
 use Rattle.lent.specs.contracts.exported.zkir_step
-use Rattle.agreement.specs.Reading.{readWorld, unchecked, read_step, readAnswer, readCall, Sized, Full}
-use Rattle.agreement.specs.Contracts.{Leaves, Allows, toldBy, worldGiven, fuelGiven, listsGiven, ranTo, callGiven, modeGiven, calledTo}
-use Rattle.agreement.specs.Contracts.{worldStepped, listsStepped, steppedTo, worldExecuted, executedTo}
-use Rattle.agreement.specs.ByHand.{Says, steps, recordsGiven, recordsAfter, stepsInPlace, placeGiven, placeAfter, stepsLent, lentGiven, lentAfter}
+use Rattle.agreement.specs.Reading.{read_world, unchecked, read_step, read_answer, read_call, Sized, Full}
+use Rattle.agreement.specs.Contracts.{Leaves, Allows, told_by, world_given, fuel_given, lists_given, ran_to, call_given, mode_given, called_to}
+use Rattle.agreement.specs.Contracts.{world_stepped, lists_stepped, stepped_to, world_executed, executed_to}
+use Rattle.agreement.specs.ByHand.{Says, steps, records_given, records_after, steps_in_place, place_given, place_after, steps_lent, lent_given, lent_after}
 use Rattle.agreement.specs.Keeping.{Capped, SmallLimbs, InBits, Restores, Undoes, Normalised, NormalisedBy}
 use Rattle.agreement.specs.Fuel.{BySteps, continued}
 
@@ -44,87 +44,87 @@ use Rattle.agreement.specs.Fuel.{BySteps, continued}
 -- particulars, the steps, the pc, the halt mark, the memory, the bounds and the values of all registers.
 abbrev pub RunsAgree : Type 0
 RunsAgree =
-    (R : Rules) (fuel : ℕ) (w : World) → Sized w.registers → allWhole w.registers.accumulated ≡ true
-    → readAnswer (run Deferred R fuel w noLists) ≡ readAnswer (run Plain R fuel w noLists)
+    (R : Rules) (fuel : ℕ) (w : World) → Sized w.registers → all_whole w.registers.accumulated ≡ true
+    → read_answer (run Deferred R fuel w no_lists) ≡ read_answer (run Plain R fuel w no_lists)
 
 -- The same from every state that a mode takes, accumulated registers too: its run is the plain run of the values.
 abbrev pub RunsOnValues : Type 0
 RunsOnValues =
     (R : Rules) (fuel : ℕ) (w : World) → Sized w.registers → (k : Mode) → admits k w.registers ≡ true
-    → readAnswer (run k R fuel w noLists) ≡ run Plain R fuel (readWorld w) noLists
+    → read_answer (run k R fuel w no_lists) ≡ run Plain R fuel (read_world w) no_lists
 
 -- And of one instruction, from any state, refused or not.
 abbrev pub InstructionsAgree : Type 0
 InstructionsAgree =
     (k : Mode) (N : Notes) (i : Instruction) (w : World) → Sized w.registers
-    → read_step (execute k Unlent N i w) ≡ unchecked (execute Plain Unlent N i (readWorld w))
+    → read_step (execute k Unlent N i w) ≡ unchecked (execute Plain Unlent N i (read_world w))
 
 -- Of the code: whatever `run_deferred` and `run_plain` leave, as far as their own contracts allow it, on the same state, bytes of memory and
 -- fuel. `GoodsP` is what the kit knows of any arguments that are handed over: here, that a state has its sixteen marks.
 abbrev pub AnswersAgree : Type 0
 AnswersAgree =
     (κs ρs : Lfts 4) (a : Args run_deferred.signature κs) (b : Args run_plain.signature ρs) → GoodsP κs run_deferred.Kinds.ps a
-    → worldGiven κs a ≡ worldGiven ρs b → fuelGiven κs a ≡ fuelGiven ρs b → listsGiven κs a ≡ noLists → listsGiven ρs b ≡ noLists
-    → allWhole (worldGiven κs a).registers.accumulated ≡ true
+    → world_given κs a ≡ world_given ρs b → fuel_given κs a ≡ fuel_given ρs b → lists_given κs a ≡ no_lists → lists_given ρs b ≡ no_lists
+    → all_whole (world_given κs a).registers.accumulated ≡ true
     → (d : Leaves run_deferred.ended κs a) (p : Leaves run_plain.ended ρs b)
     → Allows run_deferred.ended run_deferred.Reads.Learnt κs a d → Allows run_plain.ended run_plain.Reads.Learnt ρs b p
-    → readAnswer (ranTo κs a d) ≡ readAnswer (ranTo ρs b p)
+    → read_answer (ran_to κs a d) ≡ read_answer (ran_to ρs b p)
 
 -- The host's call in its two modes, on any bytes whose state has no accumulated register, taken or refused: the same result, memory and
 -- answer bytes, and state bytes that read alike.
 abbrev pub CallsAgree : Type 0
 CallsAgree =
-    (st m an : List ℕ) (fuel : ℕ) → allWhole (stateIn st).accumulated ≡ true → readCall (call_of st m an fuel 1) ≡ readCall (call_of st m an fuel 0)
+    (st m an : List ℕ) (fuel : ℕ) → all_whole (state_in st).accumulated ≡ true → read_call (call_of st m an fuel 1) ≡ read_call (call_of st m an fuel 0)
 
 -- One that the plain mode refuses before any step leaves the very same bytes in both.
 abbrev pub RefusedCallsAgree : Type 0
 RefusedCallsAgree =
-    (st m an : List ℕ) (fuel : ℕ) → allWhole (stateIn st).accumulated ≡ true → callTaken st an 0 ≡ false
+    (st m an : List ℕ) (fuel : ℕ) → all_whole (state_in st).accumulated ≡ true → call_taken st an 0 ≡ false
     → call_of st m an fuel 1 ≡ call_of st m an fuel 0
 
 -- Of the code: whatever two calls of `zkir_run` leave, as far as its own contract allows it, on the same bytes and fuel, in either mode.
 abbrev pub HostCallsAgree : Type 0
 HostCallsAgree =
-    (κs ρs : Lfts 3) (a : Args zkir_run.signature κs) (b : Args zkir_run.signature ρs) → callGiven κs a ≡ callGiven ρs b
-    → modeGiven κs a ≡ 1 → modeGiven ρs b ≡ 0 → allWhole (stateIn (callGiven κs a).state).accumulated ≡ true
+    (κs ρs : Lfts 3) (a : Args zkir_run.signature κs) (b : Args zkir_run.signature ρs) → call_given κs a ≡ call_given ρs b
+    → mode_given κs a ≡ 1 → mode_given ρs b ≡ 0 → all_whole (state_in (call_given κs a).state).accumulated ≡ true
     → (d : Leaves zkir_run.ended κs a) (p : Leaves zkir_run.ended ρs b)
     → Allows zkir_run.ended zkir_run.Reads.Learnt κs a d → Allows zkir_run.ended zkir_run.Reads.Learnt ρs b p
-    → readCall (calledTo κs a d) ≡ readCall (calledTo ρs b p)
+    → read_call (called_to κs a d) ≡ read_call (called_to ρs b p)
 
 -- After every instruction from a well-formed state the state is well-formed, with a list or without.
 abbrev pub InstructionsKeep : Type 0
 InstructionsKeep =
     (N : Notes) → Capped N → (k : Mode) (room : Room) (i : Instruction) (w : World)
-    → wellFormed w.registers ≡ true → wellFormed (execute k room N i w).world.registers ≡ true
+    → well_formed w.registers ≡ true → well_formed (execute k room N i w).world.registers ≡ true
 
 abbrev pub StepsKeep : Type 0
 StepsKeep =
     (R : Rules) → Capped R.notes → (k : Mode) (w : World) (l : Lists)
-    → wellFormed w.registers ≡ true → wellFormed (step k R w l).world.registers ≡ true
+    → well_formed w.registers ≡ true → well_formed (step k R w l).world.registers ≡ true
 
 abbrev pub RunsKeep : Type 0
 RunsKeep =
     (R : Rules) → Capped R.notes → (k : Mode) (fuel : ℕ) (w : World) (l : Lists)
-    → wellFormed w.registers ≡ true → wellFormed (run k R fuel w l).world.registers ≡ true
+    → well_formed w.registers ≡ true → well_formed (run k R fuel w l).world.registers ≡ true
 
 -- Under document 01's rules, with nothing assumed of notes: after every step from a well-formed state, deferred or plain, with lists or without,
 -- the state is well-formed, and every limb of every register is below 2^30. And so after every run.
 abbrev pub StepsKeepLimbs : Type 0
 StepsKeepLimbs =
-    (k : Mode) (w : World) (l : Lists) → wellFormed w.registers ≡ true
-    → let after = (step k documentRules w l).world.registers in (wellFormed after ≡ true) × SmallLimbs after
+    (k : Mode) (w : World) (l : Lists) → well_formed w.registers ≡ true
+    → let after = (step k document_rules w l).world.registers in (well_formed after ≡ true) × SmallLimbs after
 
 abbrev pub RunsKeepLimbs : Type 0
 RunsKeepLimbs =
-    (k : Mode) (fuel : ℕ) (w : World) (l : Lists) → wellFormed w.registers ≡ true
-    → let after = (run k documentRules fuel w l).world.registers in (wellFormed after ≡ true) × SmallLimbs after
+    (k : Mode) (fuel : ℕ) (w : World) (l : Lists) → well_formed w.registers ≡ true
+    → let after = (run k document_rules fuel w l).world.registers in (well_formed after ≡ true) × SmallLimbs after
 
 -- As a register is kept, no low limb can be read as 2^30 or more. So besides, of every register but R0: what Add and Addi, and Sub, compute on
 -- limbs is what rd then holds.
 abbrev pub SumsAreHeld : Type 0
 SumsAreHeld =
     (rd : ℕ) (x y : Held) (bound : ℕ) (R T : Registers) → Full R → Full T → rd % 16 ≢ 0
-    → holds (sumInto rd x y bound R T) rd ≡ cond (sumFits x y) (sum_of x y) (sum_of (settled x) (settled y))
+    → holds (sum_into rd x y bound R T) rd ≡ cond (sum_fits x y) (sum_of x y) (sum_of (settled x) (settled y))
 
 abbrev pub DifferencesAreHeld : Type 0
 DifferencesAreHeld =
@@ -135,14 +135,14 @@ DifferencesAreHeld =
 abbrev pub StepCallsKeepLimbs : Type 0
 StepCallsKeepLimbs =
     (κs : Lfts 4) (a : Args step·step.signature κs) (x : Leaves step·step.ended κs a) → Allows step·step.ended step·step.Reads.Learnt κs a x
-    → wellFormed (worldStepped κs a).registers ≡ true
-    → let after = registersOf x.0.state in (wellFormed after ≡ true) × SmallLimbs after
+    → well_formed (world_stepped κs a).registers ≡ true
+    → let after = registers_of x.0.state in (well_formed after ≡ true) × SmallLimbs after
 
 abbrev pub RunCallsKeepLimbs : Type 0
 RunCallsKeepLimbs =
-    (k : Mode) (κs : Lfts 4) (a : Args run_plain.signature κs) (x : Leaves run_plain.ended κs a) → Allows run_plain.ended (toldBy k) κs a x
-    → wellFormed (worldGiven κs a).registers ≡ true
-    → let after = registersOf x.0.state in (wellFormed after ≡ true) × SmallLimbs after
+    (k : Mode) (κs : Lfts 4) (a : Args run_plain.signature κs) (x : Leaves run_plain.ended κs a) → Allows run_plain.ended (told_by k) κs a x
+    → well_formed (world_given κs a).registers ≡ true
+    → let after = registers_of x.0.state in (well_formed after ≡ true) × SmallLimbs after
 
 -- Numbers stay what the code can hold: 64 bits in registers and pc, bytes in memory. So a state's bytes hold all of it.
 abbrev pub StepsStayInBits : Type 0
@@ -165,50 +165,50 @@ abbrev pub RefusedInstructionsUndo : Type 0
 RefusedInstructionsUndo = (k : Mode) (room : Room) (N : Notes) (i : Instruction) (w : World) → Undoes (execute k room N i w) w
 
 abbrev pub RefusedGivenUndo : Type 0
-RefusedGivenUndo = (k : Mode) (N : Notes) (i : Instruction) (w : World) → Undoes (executeOne k N i w) w
+RefusedGivenUndo = (k : Mode) (N : Notes) (i : Instruction) (w : World) → Undoes (execute_one k N i w) w
 
 -- Of the code: whatever a call leaves, as far as its own contract allows it, where the answer says that it was refused.
 abbrev pub StepCallsRestore : Type 0
 StepCallsRestore =
     (κs : Lfts 4) (a : Args step·step.signature κs) (x : Leaves step·step.ended κs a) → Allows step·step.ended step·step.Reads.Learnt κs a x
-    → Restores (steppedTo κs a x) (worldStepped κs a) (listsStepped κs a)
+    → Restores (stepped_to κs a x) (world_stepped κs a) (lists_stepped κs a)
 
 abbrev pub GivenCallsUndo : Type 0
 GivenCallsUndo =
     (κs : Lfts 1) (a : Args given·execute.signature κs) (x : Leaves given·execute.ended κs a) → Allows given·execute.ended given·execute.Reads.Learnt κs a x
-    → Undoes (executedTo κs a x) (worldExecuted κs a)
+    → Undoes (executed_to κs a x) (world_executed κs a)
 
 -- And of the steps over a list of records, which are proved by hand: state, memory, list and count are as they were.
 abbrev pub RecordStepsRestore : Type 2
 RecordStepsRestore =
     Says checked·step.ended (λ M 𝓤. checked·step.clauses {M = M} 𝓤) steps
     × ((κs : Lfts 2) (a : Args checked·step.signature κs) (x : Leaves checked·step.ended κs a) → Allows checked·step.ended steps κs a x
-    → (r : Refusal) → x.0.went ≡ W.Refused r → recordsAfter κs a x ≡ recordsGiven κs a)
+    → (r : Refusal) → x.0.went ≡ W.Refused r → records_after κs a x ≡ records_given κs a)
 
 abbrev pub StepsInPlaceRestore : Type 2
 StepsInPlaceRestore =
-    Says step_in_place.ended (λ M 𝓤. step_in_place.clauses {M = M} 𝓤) stepsInPlace
-    × ((κs : Lfts 3) (a : Args step_in_place.signature κs) (x : Leaves step_in_place.ended κs a) → Allows step_in_place.ended stepsInPlace κs a x
-    → (r : Refusal) → x.0.went ≡ W.Refused r → placeAfter κs a x ≡ placeGiven κs a)
+    Says step_in_place.ended (λ M 𝓤. step_in_place.clauses {M = M} 𝓤) steps_in_place
+    × ((κs : Lfts 3) (a : Args step_in_place.signature κs) (x : Leaves step_in_place.ended κs a) → Allows step_in_place.ended steps_in_place κs a x
+    → (r : Refusal) → x.0.went ≡ W.Refused r → place_after κs a x ≡ place_given κs a)
 
 -- `zkir_step` tells a refusal by its code, 1 to 9.
 abbrev pub LentStepsRestore : Type 2
 LentStepsRestore =
-    Says zkir_step.ended (λ M 𝓤. zkir_step.clauses {M = M} 𝓤) stepsLent
-    × ((κs : Lfts 3) (a : Args zkir_step.signature κs) (x : Leaves zkir_step.ended κs a) → Allows zkir_step.ended stepsLent κs a x
-    → 1 ≤ x.0.code → x.0.code ≤ 9 → lentAfter κs a x ≡ lentGiven κs a)
+    Says zkir_step.ended (λ M 𝓤. zkir_step.clauses {M = M} 𝓤) steps_lent
+    × ((κs : Lfts 3) (a : Args zkir_step.signature κs) (x : Leaves zkir_step.ended κs a) → Allows zkir_step.ended steps_lent κs a x
+    → 1 ≤ x.0.code → x.0.code ≤ 9 → lent_after κs a x ≡ lent_given κs a)
 
 -- Normalising an accumulated register of a well-formed state.
 abbrev pub NormalisingIsExact : Type 0
 NormalisingIsExact =
-    (R : Registers) (n low high : ℕ) → wellFormed R ≡ true → holds R n ≡ Limbs low high
+    (R : Registers) (n low high : ℕ) → well_formed R ≡ true → holds R n ≡ Limbs low high
     → Normalised R (normalise n R) n low high (normal 20 low high).carry1
 
 -- Of the code: whatever `normalize_register` leaves, as far as its own contract allows it.
 abbrev pub ResultsAreExact : Type 0
 ResultsAreExact =
-    (κs : Lfts 0) (a : Args normalize_register.signature κs) (low high : ℕ) → wellFormed (registersOf a.0) ≡ true → a.1.0 < 16
-    → holds (registersOf a.0) a.1.0 ≡ Limbs low high → (d : Leaves normalize_register.ended κs a)
+    (κs : Lfts 0) (a : Args normalize_register.signature κs) (low high : ℕ) → well_formed (registers_of a.0) ≡ true → a.1.0 < 16
+    → holds (registers_of a.0) a.1.0 ≡ Limbs low high → (d : Leaves normalize_register.ended κs a)
     → Allows normalize_register.ended normalize_register.Reads.Learnt κs a d → NormalisedBy a.0 a.1.0 low high d.0
 
 -- "never more than the fuel": of every run, refused ones too.
@@ -228,19 +228,19 @@ RunsContinue =
 -- All three of the code: of whatever calls of `run_plain` or of `run_deferred` leave, as far as their own contracts allow it.
 abbrev pub AnswersWithinFuel : Type 0
 AnswersWithinFuel =
-    (k : Mode) (κs : Lfts 4) (a : Args run_plain.signature κs) (x : Leaves run_plain.ended κs a) → Allows run_plain.ended (toldBy k) κs a x
-    → (ranTo κs a x).steps ≤ fuelGiven κs a
+    (k : Mode) (κs : Lfts 4) (a : Args run_plain.signature κs) (x : Leaves run_plain.ended κs a) → Allows run_plain.ended (told_by k) κs a x
+    → (ran_to κs a x).steps ≤ fuel_given κs a
 
 abbrev pub AnswersAreSteps : Type 0
 AnswersAreSteps =
-    (k : Mode) (κs : Lfts 4) (a : Args run_plain.signature κs) (x : Leaves run_plain.ended κs a) → Allows run_plain.ended (toldBy k) κs a x
-    → BySteps k documentRules (fuelGiven κs a) (worldGiven κs a) (listsGiven κs a) (ranTo κs a x)
+    (k : Mode) (κs : Lfts 4) (a : Args run_plain.signature κs) (x : Leaves run_plain.ended κs a) → Allows run_plain.ended (told_by k) κs a x
+    → BySteps k document_rules (fuel_given κs a) (world_given κs a) (lists_given κs a) (ran_to κs a x)
 
 abbrev pub AnswersContinue : Type 0
 AnswersContinue =
     (k : Mode) (κs ρs σs : Lfts 4) (a : Args run_plain.signature κs) (b : Args run_plain.signature ρs) (c : Args run_plain.signature σs)
     → (x : Leaves run_plain.ended κs a) (y : Leaves run_plain.ended ρs b) (z : Leaves run_plain.ended σs c)
-    → Allows run_plain.ended (toldBy k) κs a x → Allows run_plain.ended (toldBy k) ρs b y → Allows run_plain.ended (toldBy k) σs c z
-    → fuelGiven ρs b + fuelGiven σs c ≡ fuelGiven κs a → worldGiven κs a ≡ worldGiven ρs b → listsGiven κs a ≡ listsGiven ρs b
-    → worldGiven σs c ≡ (ranTo ρs b y).world → listsGiven σs c ≡ (ranTo ρs b y).lists
-    → ranTo κs a x ≡ continued (ranTo ρs b y) (ranTo σs c z)
+    → Allows run_plain.ended (told_by k) κs a x → Allows run_plain.ended (told_by k) ρs b y → Allows run_plain.ended (told_by k) σs c z
+    → fuel_given ρs b + fuel_given σs c ≡ fuel_given κs a → world_given κs a ≡ world_given ρs b → lists_given κs a ≡ lists_given ρs b
+    → world_given σs c ≡ (ran_to ρs b y).world → lists_given σs c ≡ (ran_to ρs b y).lists
+    → ran_to κs a x ≡ continued (ran_to ρs b y) (ran_to σs c z)

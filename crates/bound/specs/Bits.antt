@@ -11,45 +11,45 @@ unfoldable pub bits_of : ℕ → ℕ
 bits_of x = 64 - count_leading_zeros 64 x
 
 -- "Add: larger plus 1."
-abbrev pub afterAdd : ℕ → ℕ → ℕ
-afterAdd a b = capped (max a b + 1)
+abbrev pub after_add : ℕ → ℕ → ℕ
+after_add a b = capped (max a b + 1)
 
 -- "Sub, Or, Xor: larger." "A move that happens: larger of source's and destination's."
-abbrev pub afterLarger : ℕ → ℕ → ℕ
-afterLarger a b = capped (max a b)
+abbrev pub after_larger : ℕ → ℕ → ℕ
+after_larger a b = capped (max a b)
 
 -- "Mul, Mulh: sum."
-abbrev pub afterMul : ℕ → ℕ → ℕ
-afterMul a b = capped (a + b)
+abbrev pub after_mul : ℕ → ℕ → ℕ
+after_mul a b = capped (a + b)
 
 -- "Division: the dividend's."
-abbrev pub afterDiv : ℕ → ℕ
-afterDiv a = capped a
+abbrev pub after_div : ℕ → ℕ
+after_div a = capped a
 
 -- "And: smaller."
-abbrev pub afterAnd : ℕ → ℕ → ℕ
-afterAnd a b = capped (min a b)
+abbrev pub after_and : ℕ → ℕ → ℕ
+after_and a b = capped (min a b)
 
 -- "Left shift: b+k, at most 40."
-abbrev pub afterShl : ℕ → ℕ → ℕ
-afterShl b k = min (b + k) 40
+abbrev pub after_shl : ℕ → ℕ → ℕ
+after_shl b k = min (b + k) 40
 
 -- "Srl: b-k, at least 0."
-abbrev pub afterSrl : ℕ → ℕ → ℕ
-afterSrl b k = capped (b - k)
+abbrev pub after_srl : ℕ → ℕ → ℕ
+after_srl b k = capped (b - k)
 
 -- "Sra: 40 if b is 40 or more, else as Srl."
-abbrev pub afterSra : ℕ → ℕ → ℕ
-afterSra b k = cond (leb 40 b) 40 (afterSrl b k)
+abbrev pub after_sra : ℕ → ℕ → ℕ
+after_sra b k = cond (leb 40 b) 40 (after_srl b k)
 
 -- "Comparison 1."
 abbrev pub after_cmp : ℕ
 after_cmp = 1
 
 -- "Loads 8, 16, 32, and 40 for Ld, signed loads too", of a load's size in bytes
-abbrev pub afterLoad : ℕ → ℕ
-afterLoad size = min (8 * size) 40
+abbrev pub after_load : ℕ → ℕ
+after_load size = min (8 * size) 40
 
 -- "A check is needed above 40 bits."
-abbrev pub needsCheck : ℕ → Bool
-needsCheck b = ltb 40 b
+abbrev pub needs_check : ℕ → Bool
+needs_check b = ltb 40 b

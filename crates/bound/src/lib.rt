@@ -1,6 +1,6 @@
 // Notes of how many bits a value has, as `ValueBound`: what each kind of result notes.
 ghost use Rattle.std.specs.Prelude.{◌≡◌, max};
-ghost use Rattle.bound.specs.Bits.{capped, bits_of, afterAdd, afterLarger, afterMul, afterDiv, afterAnd, afterShl, afterSrl, afterSra, after_cmp, afterLoad, needsCheck};
+ghost use Rattle.bound.specs.Bits.{capped, bits_of, after_add, after_larger, after_mul, after_div, after_and, after_shl, after_srl, after_sra, after_cmp, after_load, needs_check};
 
 // The bits that a constant needs, for immediates and return addresses: the width less its leading zeros.
 pub fn from_constant(x: u64) -> u8
@@ -22,7 +22,7 @@ fn larger(a: u8, b: u8) -> u8
 }
 
 pub fn after_add(a: u8, b: u8) -> u8
-    ensures { result ≡ afterAdd a b }
+    ensures { result ≡ after_add a b }
 {
     let m = larger(a, b);
     if m < 63 { m + 1 } else { 64 }
@@ -30,14 +30,14 @@ pub fn after_add(a: u8, b: u8) -> u8
 
 // Sub, Or and Xor; and of a move that happens, the source's and the destination's.
 pub fn after_larger(a: u8, b: u8) -> u8
-    ensures { result ≡ afterLarger a b }
+    ensures { result ≡ after_larger a b }
 {
     cap(larger(a, b))
 }
 
 // Mul and Mulh.
 pub fn after_mul(a: u8, b: u8) -> u8
-    ensures { result ≡ afterMul a b }
+    ensures { result ≡ after_mul a b }
 {
     let sum = a as u32 + b as u32;
     if sum < 64 { sum as u8 } else { 64 }
@@ -45,19 +45,19 @@ pub fn after_mul(a: u8, b: u8) -> u8
 
 // Div, Divu, Rem and Remu, of the dividend's bits.
 pub fn after_div(a: u8) -> u8
-    ensures { result ≡ afterDiv a }
+    ensures { result ≡ after_div a }
 {
     cap(a)
 }
 
 pub fn after_and(a: u8, b: u8) -> u8
-    ensures { result ≡ afterAnd a b }
+    ensures { result ≡ after_and a b }
 {
     if a < b { cap(a) } else { cap(b) }
 }
 
 pub fn after_shl(b: u8, k: u64) -> u8
-    ensures { result ≡ afterShl b k }
+    ensures { result ≡ after_shl b k }
 {
     if 40 <= b {
         return 40;
@@ -66,13 +66,13 @@ pub fn after_shl(b: u8, k: u64) -> u8
 }
 
 pub fn after_srl(b: u8, k: u64) -> u8
-    ensures { result ≡ afterSrl b k }
+    ensures { result ≡ after_srl b k }
 {
     if k < b as u64 { cap(b - k as u8) } else { 0 }
 }
 
 pub fn after_sra(b: u8, k: u64) -> u8
-    ensures { result ≡ afterSra b k }
+    ensures { result ≡ after_sra b k }
 {
     if 40 <= b {
         return 40;
@@ -87,13 +87,13 @@ pub fn after_cmp() -> u8
 }
 
 pub fn after_load(size: u64) -> u8
-    ensures { result ≡ afterLoad size }
+    ensures { result ≡ after_load size }
 {
     if size < 5 { 8 * size as u8 } else { 40 }
 }
 
 pub fn needs_check(b: u8) -> bool
-    ensures { result ≡ needsCheck b }
+    ensures { result ≡ needs_check b }
 {
     40 < b
 }

@@ -9,16 +9,16 @@ use lib.ListN.{length, set}
 use lib.Seq.{set_out}
 use native.Mathlib.Omega.{arith}
 use borrow.Author.Tests.{eq-eqb}
-use Rattle.refusal.specs.Stops.{refusalOf}
-use Rattle.state.specs.Formed.{registersOf}
+use Rattle.refusal.specs.Stops.{refusal_of}
+use Rattle.state.specs.Formed.{registers_of}
 use Rattle.state.specs.declared.State.{State}
-use Rattle.execute.specs.World.{worldOf}
+use Rattle.execute.specs.World.{world_of}
 use Rattle.execute.specs.Execute.{admits}
-use Rattle.execute.specs.Rules.{rulesOf}
+use Rattle.execute.specs.Rules.{rules_of}
 use Rattle.execute.specs.declared.Choices.{Choices}
 use Rattle.execute.specs.declared.Went.TheVariants as W
-use Rattle.pending.specs.Pending.{check, checksOf, listsFit, room_at, listing}
-use Rattle.step.specs.Leg.{legIn, gone}
+use Rattle.pending.specs.Pending.{check, checks_of, lists_fit, room_at, listing}
+use Rattle.step.specs.Leg.{leg_in, gone}
 use Rattle.step.specs.declared.leg.Gone.{Gone}
 use Rattle.step.proofs.Steps.{step-malformed, step-taken}
 use Rattle.step.proofs.Legs.{step-is-leg}
@@ -54,22 +54,22 @@ module _ (pc room n : ℕ) where
 -- the tests of an entry, of a list of the room
 module _ (c : Choices) (s : State) (room n : ℕ) where
   abbrev taken : Bool
-  taken = admits c.mode (registersOf s) && (eqb room room && eqb room room && leb n room)
+  taken = admits c.mode (registers_of s) && (eqb room room && eqb room room && leb n room)
 
-  entry : (l : List Pending) → length l ≡ room → taken ≡ (admits c.mode (registersOf s) && listsFit (listed n l))
+  entry : (l : List Pending) → length l ≡ room → taken ≡ (admits c.mode (registers_of s) && lists_fit (listed n l))
   entry l e = rw (fits-is n l, e, eq-eqb room room refl)
 
   pub steps-malformed : (m : List ℕ) → taken ≡ false
-      → Steps c s m room n (record { done = record { went = W.Refused (refusalOf 9 0); count = n; state = s }; place = room; pending = none }) m
-  steps-malformed m f l e = rw (set_out l room none (omega arith)) (step-malformed c.mode (rulesOf c) (worldOf s m) (listed n l) (rw (← entry l e) f))
+      → Steps c s m room n (record { done = record { went = W.Refused (refusal_of 9 0); count = n; state = s }; place = room; pending = none }) m
+  steps-malformed m f l e = rw (set_out l room none (omega arith)) (step-malformed c.mode (rules_of c) (world_of s m) (listed n l) (rw (← entry l e) f))
 
   pub steps-taken : taken ≡ true → (m m' : List ℕ) (g : Gone) (r : Noted)
-      → gone g m' ≡ legIn 1 c.mode (room_at room n) (rulesOf c) (worldOf s m) → NotesChecks (checksOf g.checks) g.pc room n r
+      → gone g m' ≡ leg_in 1 c.mode (room_at room n) (rules_of c) (world_of s m) → NotesChecks (checks_of g.checks) g.pc room n r
       → Steps c s m room n (record { done = record { went = g.went; count = r.count; state = g.state }; place = r.place; pending = r.pending }) m'
   steps-taken f m m' g r one noted l e =
       rw (noted l e)
-      (step-is-leg c.mode (rulesOf c) (worldOf s m) (listed n l) (gone g m') (rw (room-is n l, e) one)
-      ∙ step-taken c.mode (rulesOf c) (worldOf s m) (listed n l) (rw (← entry l e) f))
+      (step-is-leg c.mode (rules_of c) (world_of s m) (listed n l) (gone g m') (rw (room-is n l, e) one)
+      ∙ step-taken c.mode (rules_of c) (world_of s m) (listed n l) (rw (← entry l e) f))
 
   pub begins : (fuel : ℕ) → fuel < 2 ^ 64 → Begins c s fuel room n (record { going = begun c s fuel taken; count = n })
   begins fuel h m l e = (omega arith, L.begins c s fuel m (listed n l) taken (entry l e))

@@ -1,12 +1,12 @@
 // Step and run over a lent list of records, in both modes: the legs of `run`, and what they ask for listed here.
 ghost use Rattle.std.specs.Prelude.{◌≡◌};
-ghost use Rattle.execute.specs.World.{worldOf};
-ghost use Rattle.execute.specs.Rules.{rulesOf};
-ghost use Rattle.pending.specs.Pending.{checksOf};
+ghost use Rattle.execute.specs.World.{world_of};
+ghost use Rattle.execute.specs.Rules.{rules_of};
+ghost use Rattle.pending.specs.Pending.{checks_of};
 ghost use Rattle.step.specs.Step.{step};
 ghost use Rattle.run.specs.Run.{run};
 ghost use Rattle.checks.specs.Records.{listed};
-ghost use Rattle.checked.specs.Machine.{steppedOver, ranOver};
+ghost use Rattle.checked.specs.Machine.{stepped_over, ran_over};
 ghost use Rattle.checked.specs.Inner.{NotesChecks, Steps, Begins, TurnsLeg};
 
 use checks::{Pending, note_at};
@@ -69,7 +69,7 @@ fn unnoted(room: usize, count: usize) -> Noted
 }
 
 fn note(checks: Checks, pc: u64, room: usize, count: usize) -> Noted
-    ensures { NotesChecks (checksOf checks) pc room count result }
+    ensures { NotesChecks (checks_of checks) pc room count result }
 {
     match checks {
         Checks::Nothing => unnoted(room, count),
@@ -121,7 +121,7 @@ fn step_at(choices: Choices, s: State, m: &mut [u8], room: usize, count: usize) 
 
 // A single step, as `step::step`.
 pub fn step(choices: Choices, s: State, m: &mut [u8], list: &mut [Pending], count: usize) -> OneStep
-    ensures { steppedOver result m.new list.new ≡ step choices.mode (rulesOf choices) (worldOf s m.old) (listed count list.old) }
+    ensures { stepped_over result m.new list.new ≡ step choices.mode (rules_of choices) (world_of s m.old) (listed count list.old) }
 {
     let r = step_at(choices, s, m, list.len(), count);
     note_at(list, r.place, r.pending);
@@ -168,7 +168,7 @@ pub fn run(
     list: &mut [Pending],
     count: usize,
 ) -> Ran
-    ensures { ranOver result m.new list.new ≡ run choices.mode (rulesOf choices) fuel (worldOf s m.old) (listed count list.old) }
+    ensures { ran_over result m.new list.new ≡ run choices.mode (rules_of choices) fuel (world_of s m.old) (listed count list.old) }
 {
     let mut r = begin(choices, s, fuel, list.len(), count);
     loop {

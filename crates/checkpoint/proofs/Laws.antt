@@ -8,14 +8,14 @@ use lib.Dec.{leb, lit<}
 use lib.ListN.{length, take, drop, drop_of_length-le}
 use lib.Seq.{take_at}
 use borrow.Author.Tests.{eq-eqb}
-use Rattle.layout.specs.Layout.{STATE_BYTES, stateBytes, stateIn, admissible}
+use Rattle.layout.specs.Layout.{STATE_BYTES, state_bytes, state_in, admissible}
 use Rattle.layout.proofs.Round.{read_back, limbs-fit, written-admissible}
 use Rattle.layout.proofs.Tests.{both}
 use Rattle.memory.specs.Bytes.{bytes}
-use Rattle.told.specs.Told.{doneTold, refusedTold}
+use Rattle.told.specs.Told.{done_told, refused_told}
 use Rattle.told.specs.declared.Told.{Told}
-use Rattle.checkpoint.specs.Image.{entriesOf, bodiesOf, imageOfParts, pageParts, pagesOf, image_of}
-use Rattle.checkpoint.specs.Calls.{memoryFits, Wrote, wrote, wroteFront, writable, writingOf, IsImage, readable, ReadLeaves, misused, broken, restored}
+use Rattle.checkpoint.specs.Image.{entries_of, bodies_of, image_of_parts, page_parts, pages_of, image_of}
+use Rattle.checkpoint.specs.Calls.{memory_fits, Wrote, wrote, wrote_front, writable, writing_of, IsImage, readable, ReadLeaves, misused, broken, restored}
 use Rattle.checkpoint.specs.Statements.{OneMachine, OneState, WritingRestores, ReadingRewrites, LeastImage}
 use Rattle.checkpoint.proofs.Images.{injective}
 use Rattle.checkpoint.proofs.Calls.{fits_whole, fits-few, readable-memory, writing-done}
@@ -23,15 +23,15 @@ use Rattle.checkpoint.proofs.Calls.{fits_whole, fits-few, readable-memory, writi
 pub one-machine : OneMachine
 one-machine len image s s' m m' f i i' =
     let w = fits_whole len f in
-    injective (pagesOf m) s s' m m' (rw i.long (fits-few len f)) i.formed i'.formed (rw i.long w) (i'.long ∙ rw i.long w) (sym i.is ∙ i'.is)
+    injective (pages_of m) s s' m m' (rw i.long (fits-few len f)) i.formed i'.formed (rw i.long w) (i'.long ∙ rw i.long w) (sym i.is ∙ i'.is)
 
 pub one_state : OneState
 one_state s s' m m' h h' w w' f l e =
-    let image = image_of (stateBytes s) m in
-    let first : IsImage (length m) image (stateBytes s) m = record { formed = written-admissible s h w; long = refl; is = refl } in
-    let second : IsImage (length m) image (stateBytes s') m' = record { formed = written-admissible s' h' w'; long = sym l; is = e } in
-    let two = one-machine (length m) image (stateBytes s) (stateBytes s') m m' f first second in
-    (sym (read_back s h (limbs-fit s h w)) ∙ ap stateIn two.0 ∙ read_back s' h' (limbs-fit s' h' w'), two.1)
+    let image = image_of (state_bytes s) m in
+    let first : IsImage (length m) image (state_bytes s) m = record { formed = written-admissible s h w; long = refl; is = refl } in
+    let second : IsImage (length m) image (state_bytes s') m' = record { formed = written-admissible s' h' w'; long = sym l; is = e } in
+    let two = one-machine (length m) image (state_bytes s) (state_bytes s') m m' f first second in
+    (sym (read_back s h (limbs-fit s h w)) ∙ ap state_in two.0 ∙ read_back s' h' (limbs-fit s' h' w'), two.1)
 
 -- the promise of reading determines what it leaves
 module _ (image state memory : List ℕ) where
@@ -52,23 +52,23 @@ module _ (image state memory : List ℕ) where
       let e = one-machine (length memory) image _ _ _ _ (readable-memory state memory x) i j in
       (refl, e.0, e.1)
 
-not_done : (code n : ℕ) → 0 < code → refusedTold code 0 ≡ doneTold n → ⊥
+not_done : (code n : ℕ) → 0 < code → refused_told code 0 ≡ done_told n → ⊥
 not_done code n h e = omega (arith, ap (λ (t : Told). t.code) e)
 
 -- what is known of a writing that was done
 module _ (state memory output : List ℕ) where
   record Done (n : ℕ) (after : List ℕ) : Type 0 where
-    pub fits : memoryFits (length memory) ≡ true
+    pub fits : memory_fits (length memory) ≡ true
     pub formed : admissible state ≡ true
     pub size : n ≡ length (image_of state memory)
     pub front : take n after ≡ image_of state memory
 
-  done-is : (n : ℕ) (after : List ℕ) → writingOf state memory output ≡ wrote (doneTold n) after → Done n after
-  unfolding writingOf
+  done-is : (n : ℕ) (after : List ℕ) → writing_of state memory output ≡ wrote (done_told n) after → Done n after
+  unfolding writing_of
   done-is n after = by (writable state memory) refl (leb (length (image_of state memory)) (length output))
     where
       by : (t : Bool) → writable state memory ≡ t → (u : Bool)
-          → cond t (cond u (wroteFront (image_of state memory) output) (wrote (refusedTold 11 0) output)) (wrote (refusedTold 9 0) output) ≡ wrote (doneTold n) after
+          → cond t (cond u (wrote_front (image_of state memory) output) (wrote (refused_told 11 0) output)) (wrote (refused_told 9 0) output) ≡ wrote (done_told n) after
           → Done n after
       by true e true q =
           let two = both _ _ e in
@@ -86,15 +86,15 @@ module _ (state memory output : List ℕ) where
 pub writing-restores : WritingRestores
 writing-restores state memory output after room spare n w size same t s m r =
     let done = done-is state memory output n after w in
-    let fits : memoryFits (length spare) ≡ true = ap memoryFits same ∙ done.fits in
+    let fits : memory_fits (length spare) ≡ true = ap memory_fits same ∙ done.fits in
     reads-one (take n after) room spare r (restored (rw (fits, eq-eqb (length room) STATE_BYTES size)) (record { formed = done.formed; long = sym same; is = done.front }))
 
 -- what is known of a reading that was done
-pub restored-is : (image room spare s m : List ℕ) → ReadLeaves image room spare (doneTold 0) s m
+pub restored-is : (image room spare s m : List ℕ) → ReadLeaves image room spare (done_told 0) s m
     → (readable room spare ≡ true) × IsImage (length spare) image s m
 restored-is image room spare s m r = by r refl
   where
-    by : {t : Told} {s m : List ℕ} → ReadLeaves image room spare t s m → t ≡ doneTold 0 → (readable room spare ≡ true) × IsImage (length spare) image s m
+    by : {t : Told} {s m : List ℕ} → ReadLeaves image room spare t s m → t ≡ done_told 0 → (readable room spare ≡ true) × IsImage (length spare) image s m
     by (misused x) e = absurd (not_done _ 0 (lit< tt) e)
     by (broken x n) e = absurd (not_done _ 0 (lit< tt) e)
     by (restored x i) e = (x, i)
@@ -103,11 +103,11 @@ pub reading-rewrites : ReadingRewrites
 reading-rewrites image room spare s m output r l =
     let is = restored-is image room spare s m r in
     let i = is.1 in
-    let f : memoryFits (length m) ≡ true = ap memoryFits i.long ∙ readable-memory room spare is.0 in
+    let f : memory_fits (length m) ≡ true = ap memory_fits i.long ∙ readable-memory room spare is.0 in
     let e : writable s m ≡ true = rw (f, i.formed) in
     let none : drop (length image) output ≡ [] = drop_of_length-le output {i = length image} (omega arith) in
     sym (writing-done s m output e (omega (arith, ap length i.is))) ∙ rw (← i.is, none, append-nil image)
 
 pub least-image : LeastImage
-unfolding image_of imageOfParts entriesOf bodiesOf pageParts bytes
+unfolding image_of image_of_parts entries_of bodies_of page_parts bytes
 least-image = refl

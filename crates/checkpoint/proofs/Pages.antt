@@ -12,27 +12,27 @@ use Rattle.memory.specs.Bytes.{bytes, number_at}
 use Rattle.memory.proofs.Numbers.{Small, number-bytes}
 use Rattle.layout.proofs.Numbers.{read_next}
 use Rattle.layout.proofs.Tests.{both}
-use Rattle.checkpoint.specs.Image.{PAGE_BYTES, allZero}
+use Rattle.checkpoint.specs.Image.{PAGE_BYTES, all_zero}
 use Rattle.checkpoint.specs.Pages.{BODY_BYTES, held, body, bodies}
-use Rattle.checkpoint.specs.Tests.{blank, stands, pageFrom, reachOf, idle, fillPages, memoryFrom}
+use Rattle.checkpoint.specs.Tests.{blank, stands, page_from, reach_of, idle, fill_pages, memory_from}
 
 pub blank-long : (n : ℕ) → length (blank n) ≡ n
 unfolding blank
 blank-long n = length-replicate n 0
 
-pub blank-zero : (n : ℕ) → allZero (blank n) ≡ true
-unfolding blank allZero
+pub blank-zero : (n : ℕ) → all_zero (blank n) ≡ true
+unfolding blank all_zero
 blank-zero zero = refl
 blank-zero (suc n) = blank-zero n
 
 -- a page of blank
-pub zero_is : (n : ℕ) (p : List ℕ) → length p ≡ n → allZero p ≡ true → p ≡ blank n
-unfolding blank allZero
+pub zero_is : (n : ℕ) (p : List ℕ) → length p ≡ n → all_zero p ≡ true → p ≡ blank n
+unfolding blank all_zero
 zero_is zero [] l z = refl
 zero_is zero (x ∷ p) l z = absurd (omega arith)
 zero_is (suc n) [] l z = absurd (omega arith)
 zero_is (suc n) (x ∷ p) l z =
-    let two = both (eqb x 0) (allZero p) z in
+    let two = both (eqb x 0) (all_zero p) z in
     rw (eqb-true x 0 two.0, zero_is n p (omega arith) two.1)
 
 pub page-long : (m : List ℕ) → PAGE_BYTES ≤ length m → length (take PAGE_BYTES m) ≡ PAGE_BYTES
@@ -44,7 +44,7 @@ rest-long n m h = simp length-drop (omega arith)
 pub held-le : (n : ℕ) (m : List ℕ) → held n m ≤ n
 unfolding held
 held-le zero m = omega arith
-held-le (suc n) m = by (allZero (take PAGE_BYTES m)) (held-le n (drop PAGE_BYTES m))
+held-le (suc n) m = by (all_zero (take PAGE_BYTES m)) (held-le n (drop PAGE_BYTES m))
   where
     by : (t : Bool) {k : ℕ} → k ≤ n → cond t 0 1 + k ≤ suc n
     by true h = omega arith
@@ -59,7 +59,7 @@ unfolding held bodies body
 bodies-long zero at m h = refl
 bodies-long (suc n) at m h =
     let rest = drop PAGE_BYTES m in
-    by (allZero (take PAGE_BYTES m)) (bodies n (at + PAGE_BYTES) rest) (held n rest) (bodies-long n (at + PAGE_BYTES) rest (rest-long n m h))
+    by (all_zero (take PAGE_BYTES m)) (bodies n (at + PAGE_BYTES) rest) (held n rest) (bodies-long n (at + PAGE_BYTES) rest (rest-long n m h))
   where
     by : (t : Bool) (r : List ℕ) (k : ℕ) → length r ≡ BODY_BYTES * k → length (cond t [] (bytes 8 at ++ take PAGE_BYTES m) ++ r) ≡ BODY_BYTES * (cond t 0 1 + k)
     by true r k e = omega arith
@@ -93,7 +93,7 @@ unfolding bodies body stands
 later zero at next m h fits l = refl
 later (suc n) at next m h fits l =
     let rest = drop PAGE_BYTES m in
-    by (allZero (take PAGE_BYTES m)) (bodies n (next + PAGE_BYTES) rest) (later n at (next + PAGE_BYTES) rest (omega arith) (omega arith) (rest-long n m l))
+    by (all_zero (take PAGE_BYTES m)) (bodies n (next + PAGE_BYTES) rest) (later n at (next + PAGE_BYTES) rest (omega arith) (omega arith) (rest-long n m l))
   where
     by : (t : Bool) (r : List ℕ) → stands at r ≡ false → stands at (cond t [] (bytes 8 next ++ take PAGE_BYTES m) ++ r) ≡ false
     by true r e = e
@@ -103,51 +103,51 @@ later (suc n) at next m h fits l =
 
 -- the bodies of a memory fill its pages, and give it back
 module _ (rest : List ℕ) (at : ℕ) where
-  fill-held : (n : ℕ) → stands at rest ≡ true → allZero (take PAGE_BYTES (drop 8 rest)) ≡ false
-      → fillPages (suc n) at rest ≡ fillPages n (at + PAGE_BYTES) (drop BODY_BYTES rest)
-  unfolding fillPages idle reachOf
+  fill-held : (n : ℕ) → stands at rest ≡ true → all_zero (take PAGE_BYTES (drop 8 rest)) ≡ false
+      → fill_pages (suc n) at rest ≡ fill_pages n (at + PAGE_BYTES) (drop BODY_BYTES rest)
+  unfolding fill_pages idle reach_of
   fill-held n s z = rw (s, z)
 
-  fill-zero : (n : ℕ) → stands at rest ≡ true → allZero (take PAGE_BYTES (drop 8 rest)) ≡ true → fillPages (suc n) at rest ≡ false
-  unfolding fillPages idle
+  fill-zero : (n : ℕ) → stands at rest ≡ true → all_zero (take PAGE_BYTES (drop 8 rest)) ≡ true → fill_pages (suc n) at rest ≡ false
+  unfolding fill_pages idle
   fill-zero n s z = rw (s, z)
 
-  fill-passed : (n : ℕ) → stands at rest ≡ false → fillPages (suc n) at rest ≡ fillPages n (at + PAGE_BYTES) rest
-  unfolding fillPages idle reachOf
+  fill-passed : (n : ℕ) → stands at rest ≡ false → fill_pages (suc n) at rest ≡ fill_pages n (at + PAGE_BYTES) rest
+  unfolding fill_pages idle reach_of
   fill-passed n s = rw s
 
   memory-held : (n : ℕ) → stands at rest ≡ true
-      → memoryFrom (suc n) at rest ≡ take PAGE_BYTES (drop 8 rest) ++ memoryFrom n (at + PAGE_BYTES) (drop BODY_BYTES rest)
-  unfolding memoryFrom pageFrom reachOf
+      → memory_from (suc n) at rest ≡ take PAGE_BYTES (drop 8 rest) ++ memory_from n (at + PAGE_BYTES) (drop BODY_BYTES rest)
+  unfolding memory_from page_from reach_of
   memory-held n s = rw s
 
-  memory-passed : (n : ℕ) → stands at rest ≡ false → memoryFrom (suc n) at rest ≡ blank PAGE_BYTES ++ memoryFrom n (at + PAGE_BYTES) rest
-  unfolding memoryFrom pageFrom reachOf
+  memory-passed : (n : ℕ) → stands at rest ≡ false → memory_from (suc n) at rest ≡ blank PAGE_BYTES ++ memory_from n (at + PAGE_BYTES) rest
+  unfolding memory_from page_from reach_of
   memory-passed n s = rw s
 
 module _ (m : List ℕ) (at n : ℕ) where
-  bodies-held : allZero (take PAGE_BYTES m) ≡ false → bodies (suc n) at m ≡ (bytes 8 at ++ take PAGE_BYTES m) ++ bodies n (at + PAGE_BYTES) (drop PAGE_BYTES m)
+  bodies-held : all_zero (take PAGE_BYTES m) ≡ false → bodies (suc n) at m ≡ (bytes 8 at ++ take PAGE_BYTES m) ++ bodies n (at + PAGE_BYTES) (drop PAGE_BYTES m)
   unfolding bodies body
   bodies-held z = rw z
 
-  bodies-passed : allZero (take PAGE_BYTES m) ≡ true → bodies (suc n) at m ≡ bodies n (at + PAGE_BYTES) (drop PAGE_BYTES m)
+  bodies-passed : all_zero (take PAGE_BYTES m) ≡ true → bodies (suc n) at m ≡ bodies n (at + PAGE_BYTES) (drop PAGE_BYTES m)
   unfolding bodies body
   bodies-passed z = rw z
 
 abbrev GivesBack : ℕ → ℕ → List ℕ → Type 0
-GivesBack n at m = (fillPages n at (bodies n at m) ≡ true) × (memoryFrom n at (bodies n at m) ≡ m)
+GivesBack n at m = (fill_pages n at (bodies n at m) ≡ true) × (memory_from n at (bodies n at m) ≡ m)
 
 none-fill : (at : ℕ) (m : List ℕ) → length m ≡ 0 → GivesBack zero at m
-unfolding fillPages memoryFrom bodies
+unfolding fill_pages memory_from bodies
 none-fill at [] l = (refl, refl)
 none-fill at (x ∷ m) l = absurd (omega arith)
 
 pub bodies-fill : (n at : ℕ) (m : List ℕ) → at + PAGE_BYTES * n < 2 ^ 64 → length m ≡ PAGE_BYTES * n → GivesBack n at m
 bodies-fill zero at m fits l = none-fill at m l
 bodies-fill (suc n) at m fits l =
-    by (bodies-fill n (at + PAGE_BYTES) (drop PAGE_BYTES m) (omega arith) (rest-long n m l)) (allZero (take PAGE_BYTES m)) refl
+    by (bodies-fill n (at + PAGE_BYTES) (drop PAGE_BYTES m) (omega arith) (rest-long n m l)) (all_zero (take PAGE_BYTES m)) refl
   where
-    by : GivesBack n (at + PAGE_BYTES) (drop PAGE_BYTES m) → (t : Bool) → allZero (take PAGE_BYTES m) ≡ t → GivesBack (suc n) at m
+    by : GivesBack n (at + PAGE_BYTES) (drop PAGE_BYTES m) → (t : Bool) → all_zero (take PAGE_BYTES m) ≡ t → GivesBack (suc n) at m
     by ih true z =
         let rest = bodies n (at + PAGE_BYTES) (drop PAGE_BYTES m) in
         let long = rest-long n m l in
@@ -174,35 +174,35 @@ stands-is at rest s =
     let two = both (leb BODY_BYTES (length rest)) (eqb (number_at 8 rest 0) at) s in
     (leb-true _ _ two.0, sym (eqb-true _ _ two.1))
 
-memory-none : (at : ℕ) (rest : List ℕ) → length (memoryFrom zero at rest) ≡ 0
-unfolding memoryFrom
+memory-none : (at : ℕ) (rest : List ℕ) → length (memory_from zero at rest) ≡ 0
+unfolding memory_from
 memory-none at rest = refl
 
-pub memory-long : (n at : ℕ) (rest : List ℕ) → length (memoryFrom n at rest) ≡ PAGE_BYTES * n
+pub memory-long : (n at : ℕ) (rest : List ℕ) → length (memory_from n at rest) ≡ PAGE_BYTES * n
 memory-long zero at rest = memory-none at rest
 memory-long (suc n) at rest = by (memory-long n (at + PAGE_BYTES)) (stands at rest) refl
   where
-    by : ((rest : List ℕ) → length (memoryFrom n (at + PAGE_BYTES) rest) ≡ PAGE_BYTES * n) → (t : Bool) → stands at rest ≡ t
-        → length (memoryFrom (suc n) at rest) ≡ PAGE_BYTES * suc n
+    by : ((rest : List ℕ) → length (memory_from n (at + PAGE_BYTES) rest) ≡ PAGE_BYTES * n) → (t : Bool) → stands at rest ≡ t
+        → length (memory_from (suc n) at rest) ≡ PAGE_BYTES * suc n
     by ih true s =
         let size : length (take PAGE_BYTES (drop 8 rest)) ≡ PAGE_BYTES = simp (length-take, length-drop) (omega (arith, (stands-is at rest s).0)) in
         rw (memory-held rest at n s) (simp (length-append, size, ih (drop BODY_BYTES rest)) (omega arith))
     by ih false s = rw (memory-passed rest at n s) (simp (length-append, blank-long PAGE_BYTES, ih rest) (omega arith))
 
-none-bodies : (at : ℕ) (rest : List ℕ) → fillPages zero at rest ≡ true → bodies zero at (memoryFrom zero at rest) ≡ rest
-unfolding fillPages bodies memoryFrom
+none-bodies : (at : ℕ) (rest : List ℕ) → fill_pages zero at rest ≡ true → bodies zero at (memory_from zero at rest) ≡ rest
+unfolding fill_pages bodies memory_from
 none-bodies at [] t = refl
 none-bodies at (x ∷ rest) t = absurd (omega (arith, eqb-true (suc (length rest)) 0 t))
 
 abbrev Filled : ℕ → ℕ → Type 0
-Filled n at = (rest : List ℕ) → Small rest → fillPages n at rest ≡ true → bodies n at (memoryFrom n at rest) ≡ rest
+Filled n at = (rest : List ℕ) → Small rest → fill_pages n at rest ≡ true → bodies n at (memory_from n at rest) ≡ rest
 
 pub filled-bodies : (n at : ℕ) → Filled n at
 filled-bodies zero at rest small t = none-bodies at rest t
 filled-bodies (suc n) at rest small t = by (filled-bodies n (at + PAGE_BYTES)) (stands at rest) refl
   where
-    held_by : Filled n (at + PAGE_BYTES) → (z : Bool) → allZero (take PAGE_BYTES (drop 8 rest)) ≡ z → stands at rest ≡ true
-        → bodies (suc n) at (memoryFrom (suc n) at rest) ≡ rest
+    held_by : Filled n (at + PAGE_BYTES) → (z : Bool) → all_zero (take PAGE_BYTES (drop 8 rest)) ≡ z → stands at rest ≡ true
+        → bodies (suc n) at (memory_from (suc n) at rest) ≡ rest
     held_by ih true z s =
         let e : ◌≡◌ {A = Bool} true false = sym t ∙ fill-zero rest at n s z in
         absurd (let q : ◌≡◌ {A = ℕ} 0 1 = cc in omega arith)
@@ -210,7 +210,7 @@ filled-bodies (suc n) at rest small t = by (filled-bodies n (at + PAGE_BYTES)) (
         let is = stands-is at rest s in
         let p = take PAGE_BYTES (drop 8 rest) in
         let next = drop BODY_BYTES rest in
-        let mem = memoryFrom n (at + PAGE_BYTES) next in
+        let mem = memory_from n (at + PAGE_BYTES) next in
         let size : length p ≡ PAGE_BYTES = simp (length-take, length-drop) (omega arith) in
         let front : take PAGE_BYTES (p ++ mem) ≡ p = take_at p mem PAGE_BYTES size in
         let back : drop PAGE_BYTES (p ++ mem) ≡ mem = drop_at p mem PAGE_BYTES size in
@@ -221,11 +221,11 @@ filled-bodies (suc n) at rest small t = by (filled-bodies n (at + PAGE_BYTES)) (
         rw (memory-held rest at n s) (bodies-held (p ++ mem) at n (rw front z)
         ∙ rw (front, back, ih, append_assoc, joined) (read_next 8 rest 0 8 small refl (omega arith) is.1))
 
-    by : Filled n (at + PAGE_BYTES) → (t : Bool) → stands at rest ≡ t → bodies (suc n) at (memoryFrom (suc n) at rest) ≡ rest
-    by more true s = held_by more (allZero (take PAGE_BYTES (drop 8 rest))) refl s
+    by : Filled n (at + PAGE_BYTES) → (t : Bool) → stands at rest ≡ t → bodies (suc n) at (memory_from (suc n) at rest) ≡ rest
+    by more true s = held_by more (all_zero (take PAGE_BYTES (drop 8 rest))) refl s
     by more false s =
         let p = blank PAGE_BYTES in
-        let mem = memoryFrom n (at + PAGE_BYTES) rest in
+        let mem = memory_from n (at + PAGE_BYTES) rest in
         let front : take PAGE_BYTES (p ++ mem) ≡ p = take_at p mem PAGE_BYTES (blank-long PAGE_BYTES) in
         let back : drop PAGE_BYTES (p ++ mem) ≡ mem = drop_at p mem PAGE_BYTES (blank-long PAGE_BYTES) in
         rw (memory-passed rest at n s) (bodies-passed (p ++ mem) at n (rw front (blank-zero PAGE_BYTES))

@@ -9,31 +9,31 @@ use lib.Dec.{eqb}
 use lib.ListN.{length, take, drop, get_or, set}
 use lib.Seq.{sets, drop-cons, drop-drop, take-add}
 use borrow.Author.Tests.{eq-eqb, ne_eqb}
-use Rattle.checkpoint.specs.Image.{allZero}
+use Rattle.checkpoint.specs.Image.{all_zero}
 use Rattle.checkpoint.specs.Tests.{blank, same}
 
 -- 64 bytes more
-zero-append : (a b : List ℕ) → allZero (a ++ b) ≡ (allZero a && allZero b)
-unfolding allZero
+zero-append : (a b : List ℕ) → all_zero (a ++ b) ≡ (all_zero a && all_zero b)
+unfolding all_zero
 zero-append [] b = refl
 zero-append (x ∷ a) b = rw (zero-append a b) (by (eqb x 0))
   where
-    by : (t : Bool) → (t && (allZero a && allZero b)) ≡ ((t && allZero a) && allZero b)
+    by : (t : Bool) → (t && (all_zero a && all_zero b)) ≡ ((t && all_zero a) && all_zero b)
     by true = refl
     by false = refl
 
 module _ (b : List ℕ) (at n i : ℕ) (h : i < n) (even : n % 64 ≡ 0) (so : i % 64 ≡ 0) where
-  chunk : allZero (take (n - i) (drop (at + i) b)) ≡ (allZero (take 64 (drop (at + i) b)) && allZero (take (n - (i + 64)) (drop (at + (i + 64)) b)))
+  chunk : all_zero (take (n - i) (drop (at + i) b)) ≡ (all_zero (take 64 (drop (at + i) b)) && all_zero (take (n - (i + 64)) (drop (at + (i + 64)) b)))
   chunk =
       let e : n - i ≡ 64 + (n - (i + 64)) = omega arith in
       let d : at + (i + 64) ≡ at + i + 64 = omega arith in
       rw (e, d, ← drop-drop 64 (at + i) b, take-add 64 (n - (i + 64)) (drop (at + i) b)) (zero-append (take 64 (drop (at + i) b)) (take (n - (i + 64)) (drop 64 (drop (at + i) b))))
 
-  pub chunk-stop : allZero (take 64 (drop (at + i) b)) ≡ false → false ≡ allZero (take (n - i) (drop (at + i) b))
+  pub chunk-stop : all_zero (take 64 (drop (at + i) b)) ≡ false → false ≡ all_zero (take (n - i) (drop (at + i) b))
   chunk-stop z = sym (chunk ∙ rw z)
 
-  pub chunk-more : allZero (take 64 (drop (at + i) b)) ≡ true
-      → allZero (take (n - i) (drop (at + i) b)) ≡ allZero (take (n - (i + 64)) (drop (at + (i + 64)) b))
+  pub chunk-more : all_zero (take 64 (drop (at + i) b)) ≡ true
+      → all_zero (take (n - i) (drop (at + i) b)) ≡ all_zero (take (n - (i + 64)) (drop (at + (i + 64)) b))
   chunk-more z = chunk ∙ rw z
 
 part-more : (b : List ℕ) (at n i : ℕ) → i < n → at + n ≤ length b
@@ -55,8 +55,8 @@ module _ (n i : ℕ) (h : n ≤ i) where
   unfolding blank
   blank_none = rw none_left
 
-  pub zero-end : (l : List ℕ) → true ≡ allZero (take (n - i) l)
-  unfolding allZero
+  pub zero-end : (l : List ℕ) → true ≡ all_zero (take (n - i) l)
+  unfolding all_zero
   zero-end l = rw none_left
 
   pub same_end : (l k : List ℕ) → true ≡ same (take (n - i) l) (take (n - i) k)
@@ -66,9 +66,9 @@ module _ (n i : ℕ) (h : n ≤ i) where
 module _ (b : List ℕ) (at n i : ℕ) (h : i < n) (fits : at + n ≤ length b) where
   -- a byte more, joined to those before it
   pub found-more : (s : ℕ)
-      → (eqb s 0 && allZero (take (n - i) (drop (at + i) b))) ≡ (eqb (bit_or s (get_or b (at + i) 0)) 0 && allZero (take (n - (i + 1)) (drop (at + (i + 1)) b)))
-  unfolding allZero
-  found-more s = rw (part-more b at n i h fits) (by s (get_or b (at + i) 0) (allZero (take (n - (i + 1)) (drop (at + (i + 1)) b))))
+      → (eqb s 0 && all_zero (take (n - i) (drop (at + i) b))) ≡ (eqb (bit_or s (get_or b (at + i) 0)) 0 && all_zero (take (n - (i + 1)) (drop (at + (i + 1)) b)))
+  unfolding all_zero
+  found-more s = rw (part-more b at n i h fits) (by s (get_or b (at + i) 0) (all_zero (take (n - (i + 1)) (drop (at + (i + 1)) b))))
     where
       by : (s x : ℕ) (r : Bool) → (eqb s 0 && (eqb x 0 && r)) ≡ (eqb (bit_or s x) 0 && r)
       by zero x r = rw (or_zero_l x)
@@ -82,8 +82,8 @@ module _ (b : List ℕ) (at n i : ℕ) (h : i < n) (fits : at + n ≤ length b) 
       let d : to + (i + 1) ≡ suc (to + i) = omega arith in
       rw (part-more b at n i h fits, d)
 
-pub found-end : (s n i : ℕ) (l : List ℕ) → n ≤ i → eqb s 0 ≡ (eqb s 0 && allZero (take (n - i) l))
-unfolding allZero
+pub found-end : (s n i : ℕ) (l : List ℕ) → n ≤ i → eqb s 0 ≡ (eqb s 0 && all_zero (take (n - i) l))
+unfolding all_zero
 found-end s n i l h = rw (none_left n i h) (by (eqb s 0))
   where
     by : (t : Bool) → t ≡ (t && true)

@@ -2,7 +2,7 @@
 // state's bytes, then each page that holds a nonzero byte, behind its address.
 ghost use Rattle.std.specs.Prelude.{◌≡◌, ◌&&◌, eqb};
 ghost use Rattle.layout.specs.Layout.{STATE_BYTES, admissible};
-ghost use Rattle.checkpoint.specs.Calls.{memoryFits, wrote, writingOf, ReadLeaves};
+ghost use Rattle.checkpoint.specs.Calls.{memory_fits, wrote, writing_of, ReadLeaves};
 
 use layout::STATE_BYTES;
 use layout::laid::is_admissible;
@@ -33,7 +33,7 @@ pub(crate) const LEAST: usize = TABLE_BYTES + STATE_BYTES;
 pub(crate) const MORE: usize = ENTRY_BYTES + BODY_BYTES;
 
 fn memory_fits(len: usize) -> bool
-    ensures { result ≡ memoryFits len }
+    ensures { result ≡ memory_fits len }
 {
     if len % PAGE_BYTES != 0 {
         return false;
@@ -42,7 +42,7 @@ fn memory_fits(len: usize) -> bool
 }
 
 fn writable(state: &[u8], memory: usize) -> bool
-    ensures { result ≡ (memoryFits memory && admissible state.now) }
+    ensures { result ≡ (memory_fits memory && admissible state.now) }
 {
     if !memory_fits(memory) {
         return false;
@@ -53,7 +53,7 @@ fn writable(state: &[u8], memory: usize) -> bool
 // The image into the front of `image`, where it fits.
 #[unsafe(no_mangle)]
 pub extern "C" fn zkir_checkpoint_write(state: &[u8], memory: &[u8], image: &mut [u8]) -> Told
-    ensures { wrote result image.new ≡ writingOf state.now memory.now image.old }
+    ensures { wrote result image.new ≡ writing_of state.now memory.now image.old }
 {
     if !writable(state, memory.len()) {
         return refused(9, 0);
@@ -69,7 +69,7 @@ pub extern "C" fn zkir_checkpoint_write(state: &[u8], memory: &[u8], image: &mut
 }
 
 fn readable(state: usize, memory: usize) -> bool
-    ensures { result ≡ (memoryFits memory && eqb state STATE_BYTES) }
+    ensures { result ≡ (memory_fits memory && eqb state STATE_BYTES) }
 {
     if !memory_fits(memory) {
         return false;

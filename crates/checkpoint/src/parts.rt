@@ -1,13 +1,13 @@
 // Parts of slices: copied, cleared and compared.
 ghost use Rattle.std.specs.Prelude.{◌≡◌, ◌+◌, ◌%◌, ◌≤◌, length, take, drop};
 ghost use Rattle.std.proofs.lemmas.List.Edits.{sets};
-ghost use Rattle.checkpoint.specs.Image.{allZero};
+ghost use Rattle.checkpoint.specs.Image.{all_zero};
 ghost use Rattle.checkpoint.specs.Tests.{blank, same};
 
 // Whether the 64 bytes from a place on are zeros: no byte stops it, so that the compiler can take many at once.
 fn chunk_zero(bytes: &[u8], at: usize) -> bool
     requires { at + 64 ≤ length bytes.now }
-    ensures { result ≡ allZero (take 64 (drop at bytes.now)) }
+    ensures { result ≡ all_zero (take 64 (drop at bytes.now)) }
 {
     let mut found: u8 = 0;
     let mut i: usize = 0;
@@ -22,7 +22,7 @@ fn chunk_zero(bytes: &[u8], at: usize) -> bool
 pub(crate) fn all_zero(bytes: &[u8], at: usize, n: usize) -> bool
     requires n_in_bounds { at + n ≤ length bytes.now }
     requires n_value { n % 64 ≡ 0 }
-    ensures { result ≡ allZero (take n (drop at bytes.now)) }
+    ensures { result ≡ all_zero (take n (drop at bytes.now)) }
 {
     let mut i: usize = 0;
     while i < n {

@@ -2,7 +2,7 @@
 ghost use Rattle.std.specs.Prelude.{◌≡◌, ◌+◌, ◌*◌, ◌≤◌, ◌<◌, length, drop};
 ghost use Rattle.std.proofs.lemmas.List.Edits.{sets};
 ghost use Rattle.checkpoint.specs.Image.{PAGE_BYTES};
-ghost use Rattle.checkpoint.specs.Tests.{stands, pageFrom, reachOf, idle, fillPages, memoryFrom, LEAST, stateAt, bodiesAt, passes};
+ghost use Rattle.checkpoint.specs.Tests.{stands, page_from, reach_of, idle, fill_pages, memory_from, LEAST, state_at, bodies_at, passes};
 ghost use Rattle.layout.specs.Layout.{STATE_BYTES};
 
 use crate::parts::{all_zero, clear, copy};
@@ -26,7 +26,7 @@ fn stands(image: &[u8], place: usize, at: usize) -> bool
 // How far it reaches.
 fn reach_of(image: &[u8], place: usize, at: usize) -> usize
     requires { place ≤ length image.now }
-    ensures { (result ≡ reachOf at (drop place image.now)) × (place + result ≤ length image.now) }
+    ensures { (result ≡ reach_of at (drop place image.now)) × (place + result ≤ length image.now) }
 {
     if stands(image, place, at) {
         BODY_BYTES
@@ -50,7 +50,7 @@ fn idle(image: &[u8], place: usize, at: usize) -> bool
 fn fill_pages(image: &[u8], start: usize, pages: usize) -> bool
     requires pages_bound { pages ≤ 16 }
     requires start_in_bounds { start ≤ length image.now }
-    ensures { result ≡ fillPages pages 0 (drop start image.now) }
+    ensures { result ≡ fill_pages pages 0 (drop start image.now) }
 {
     let mut place = start;
     let mut p: usize = 0;
@@ -95,7 +95,7 @@ pub(crate) fn passes(image: &[u8], pages: usize) -> bool
 fn put_page(memory: &mut [u8], at: usize, image: &[u8], place: usize)
     requires at_in_bounds { at + PAGE_BYTES ≤ length memory.old }
     requires place_in_bounds { place ≤ length image.now }
-    ensures { memory.new ≡ sets memory.old at (pageFrom at (drop place image.now)) }
+    ensures { memory.new ≡ sets memory.old at (page_from at (drop place image.now)) }
 {
     if stands(image, place, at) {
         copy(memory, at, image, place + 8, PAGE_BYTES);
@@ -108,7 +108,7 @@ fn put_pages(memory: &mut [u8], pages: usize, image: &[u8], start: usize)
     requires pages_bound { pages ≤ 16 }
     requires memory_len { length memory.old ≡ PAGE_BYTES * pages }
     requires start_in_bounds { start ≤ length image.now }
-    ensures { memory.new ≡ memoryFrom pages 0 (drop start image.now) }
+    ensures { memory.new ≡ memory_from pages 0 (drop start image.now) }
 {
     let mut place = start;
     let mut p: usize = 0;
@@ -125,7 +125,7 @@ pub(crate) fn restore(state: &mut [u8], memory: &mut [u8], pages: usize, image: 
     requires memory_len { length memory.old ≡ PAGE_BYTES * pages }
     requires state_len { length state.old ≡ STATE_BYTES }
     requires in_bounds { LEAST ≤ length image.now }
-    ensures { (state.new ≡ stateAt image.now) × (memory.new ≡ memoryFrom pages 0 (bodiesAt image.now)) }
+    ensures { (state.new ≡ state_at image.now) × (memory.new ≡ memory_from pages 0 (bodies_at image.now)) }
 {
     let n = (image.len() - LEAST) / MORE;
     let start = TABLE_BYTES + ENTRY_BYTES * n;

@@ -1,7 +1,7 @@
 // The table of contents, which the number of pages decides.
 ghost use Rattle.std.specs.Prelude.{◌≡◌, ◌+◌, ◌*◌, ◌≤◌, length, take};
 ghost use Rattle.std.proofs.lemmas.List.Edits.{sets};
-ghost use Rattle.checkpoint.specs.Pages.{entry, entries, tableBytes, table_of};
+ghost use Rattle.checkpoint.specs.Pages.{entry, entries, table_bytes, table_of};
 ghost use Rattle.checkpoint.specs.Tests.{same};
 ghost use Rattle.layout.specs.Layout.{STATE_BYTES};
 
@@ -25,8 +25,8 @@ fn put_entry(into: &mut [u8], at: usize, kind: u64, offset: usize, size: usize)
 // The entries of n pages, behind that of the state.
 fn put_entries(into: &mut [u8], n: usize, offset: usize)
     requires n_bound { n ≤ 16 }
-    requires n_in_bounds { tableBytes n ≤ length into.old }
-    requires offset_bound { offset ≤ tableBytes 16 + STATE_BYTES }
+    requires n_in_bounds { table_bytes n ≤ length into.old }
+    requires offset_bound { offset ≤ table_bytes 16 + STATE_BYTES }
     ensures { into.new ≡ sets into.old 16 (entries n offset) }
 {
     let mut i: usize = 0;
@@ -44,7 +44,7 @@ fn put_entries(into: &mut [u8], n: usize, offset: usize)
 
 pub(crate) fn put_table(into: &mut [u8], n: usize)
     requires n_bound { n ≤ 16 }
-    requires n_in_bounds { tableBytes n ≤ length into.old }
+    requires n_in_bounds { table_bytes n ≤ length into.old }
     ensures { into.new ≡ sets into.old 0 (table_of n) }
 {
     let start = TABLE_BYTES + ENTRY_BYTES * n;
@@ -56,8 +56,8 @@ pub(crate) fn put_table(into: &mut [u8], n: usize)
 // Whether an image begins with the table of n pages.
 pub(crate) fn table_is(image: &[u8], n: usize) -> bool
     requires n_bound { n ≤ 16 }
-    requires n_in_bounds { tableBytes n ≤ length image.now }
-    ensures { result ≡ same (take (tableBytes n) image.now) (table_of n) }
+    requires n_in_bounds { table_bytes n ≤ length image.now }
+    ensures { result ≡ same (take (table_bytes n) image.now) (table_of n) }
 {
     let mut table = [0u8; MOST_TABLE];
     put_table(&mut table, n);

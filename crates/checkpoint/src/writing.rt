@@ -1,7 +1,7 @@
 // The image of a machine, written.
 ghost use Rattle.std.specs.Prelude.{◌≡◌, cond, ◌+◌, ◌*◌, ◌≤◌, ◌<◌, length, take, drop};
 ghost use Rattle.std.proofs.lemmas.List.Edits.{sets};
-ghost use Rattle.checkpoint.specs.Image.{PAGE_BYTES, allZero, image_of};
+ghost use Rattle.checkpoint.specs.Image.{PAGE_BYTES, all_zero, image_of};
 ghost use Rattle.checkpoint.specs.Pages.{held, body, bodies};
 ghost use Rattle.checkpoint.specs.Tests.{LEAST, MORE};
 ghost use Rattle.layout.specs.Layout.{STATE_BYTES};
@@ -15,7 +15,7 @@ use memory::bytes::put_number;
 // 1 where the page at an address holds a nonzero byte.
 fn held_at(memory: &[u8], at: usize) -> usize
     requires { at + PAGE_BYTES ≤ length memory.now }
-    ensures { (result ≡ cond (allZero (take PAGE_BYTES (drop at memory.now))) 0 1) × (result ≤ 1) }
+    ensures { (result ≡ cond (all_zero (take PAGE_BYTES (drop at memory.now))) 0 1) × (result ≤ 1) }
 {
     if all_zero(memory, at, PAGE_BYTES) {
         0

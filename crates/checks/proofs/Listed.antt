@@ -11,8 +11,8 @@ use lib.Dec.{leb}
 use lib.ListN.{length, set, get_or, drop, length-map, get_or-map}
 use native.Mathlib.Omega.{arith}
 use borrow.Author.Tests.{lt-ltb, le-ltb, eq-eqb, le-leb, lt-leb}
-use Rattle.refusal.specs.Stops.{refusalOf}
-use Rattle.pending.specs.Pending.{Lists, listsFit, room_at, roomOf, appended, emptyAnswer, emptyLists, entry_at}
+use Rattle.refusal.specs.Stops.{refusal_of}
+use Rattle.pending.specs.Pending.{Lists, lists_fit, room_at, room_of, appended, empty_answer, empty_lists, entry_at}
 use Rattle.pending.specs.declared.Counted.TheVariants as N
 use Rattle.pending.specs.declared.Entry.TheVariants as E
 use Rattle.pending.proofs.Lists.{empty-malformed, empty-done, entry-malformed, entry-beyond, entry-there}
@@ -31,10 +31,10 @@ map-set f [] n a = refl
 map-set f (x ∷ xs) zero a = refl
 map-set f (x ∷ xs) (suc n) a = ap (λ r. f x ∷ r) (map-set f xs n a)
 
-pub fits-is : (n : ℕ) (l : List Pending) → listsFit (listed n l) ≡ leb n (length l)
+pub fits-is : (n : ℕ) (l : List Pending) → lists_fit (listed n l) ≡ leb n (length l)
 fits-is n l = simp (length-map l (λ (p : Pending). p.value), length-map l (λ (p : Pending). p.bound), length-map l (λ (p : Pending). p.pc), eq-eqb (length l) (length l) refl)
 
-pub room-is : (n : ℕ) (l : List Pending) → roomOf (listed n l) ≡ room_at (length l) n
+pub room-is : (n : ℕ) (l : List Pending) → room_of (listed n l) ≡ room_at (length l) n
 room-is n l = rw (length-map l (λ (p : Pending). p.value))
 
 module _ (n : ℕ) (l : List Pending) (p : Pending) where
@@ -48,22 +48,22 @@ module _ (n : ℕ) (l : List Pending) (p : Pending) where
   listed_same h = rw (length-map l (λ (p : Pending). p.value), le-ltb n (length l) h)
 
 module _ (n : ℕ) (l : List Pending) where
-  pub not_within : length l < n → listsFit (listed n l) ≡ false
+  pub not_within : length l < n → lists_fit (listed n l) ≡ false
   not_within h = fits-is n l ∙ lt-leb n (length l) h
 
-  pub within : n ≤ length l → listsFit (listed n l) ≡ true
+  pub within : n ≤ length l → lists_fit (listed n l) ≡ true
   within h = fits-is n l ∙ le-leb n (length l) h
 
   pub refused-to-empty : length l < n
-      → (N.Refused (refusalOf 9 0) ≡ emptyAnswer (listed n l)) × (listed (emptyLists (listed n l)).count l ≡ emptyLists (listed n l))
+      → (N.Refused (refusal_of 9 0) ≡ empty_answer (listed n l)) × (listed (empty_lists (listed n l)).count l ≡ empty_lists (listed n l))
   refused-to-empty h = let t = empty-malformed (listed n l) (not_within h) in (t.0, rw (← t.1))
 
   pub empties : n ≤ length l
-      → (N.Count 0 ≡ emptyAnswer (listed n l)) × (listed (emptyLists (listed n l)).count l ≡ emptyLists (listed n l))
+      → (N.Count 0 ≡ empty_answer (listed n l)) × (listed (empty_lists (listed n l)).count l ≡ empty_lists (listed n l))
   empties h = let t = empty-done (listed n l) (within h) in (t.0, rw (← t.1))
 
   module _ (i : ℕ) where
-    pub refused-to-read : length l < n → E.Refused (refusalOf 9 0) ≡ entry_at i (listed n l)
+    pub refused-to-read : length l < n → E.Refused (refusal_of 9 0) ≡ entry_at i (listed n l)
     refused-to-read h = entry-malformed i (listed n l) (not_within h)
 
     pub no-entry : n ≤ length l → n ≤ i → E.Nothing ≡ entry_at i (listed n l)

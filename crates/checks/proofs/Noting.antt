@@ -9,8 +9,8 @@ use Rattle.checks.proofs.Pending.TheLaws as K'
 use Rattle.checks.specs.contracts.note_at as note-at
 
 -- the machine values of a record
-abbrev pub valsP : Pending → List Val
-valsP = LL.vals K.the_type K'.the_laws
+abbrev pub vals_p : Pending → List Val
+vals_p = LL.vals K.the_type K'.the_laws
 
 module _ {M : Type 1} {𝓤 : Ura M} (𝓛 : Logic 𝓤) (at_mem : Memory → SProp 𝓤) (run : Routine → Fun 𝓤) where
   open 𝓛 use {A}
@@ -26,9 +26,9 @@ module _ {M : Type 1} {𝓤 : Ura M} (𝓛 : Logic 𝓤) (at_mem : Memory → SP
     sl = slice_val (b, o) (length ks)
 
     abbrev pub to-note : Note.Ghost
-    to-note = (((κ, tt), (q, tt), tt, (xl, (place, (p, tt))), (sl ∷ [], (vint w64 place ∷ [], (valsP p, tt)))), tt)
+    to-note = (((κ, tt), (q, tt), tt, (xl, (place, (p, tt))), (sl ∷ [], (vint w64 place ∷ [], (vals_p p, tt)))), tt)
 
-    pub goes-note : place < 2 ^ 64 → Is K.the_row p (valsP p)
+    pub goes-note : place < 2 ^ 64 → Is K.the_row p (vals_p p)
         → ent 𝓤 (sep 𝓤 (sep 𝓤 (A.lft κ q) (sem 𝓛 ftrue)) (sem 𝓛 ((MutSlice (named 0) κ K.the_row).own_val xl (sl ∷ [])))) (Note.pre to-note)
     goes-note fits is =
         qed 𝓛 ((‵ (flft κ q) ⊛ ‵ ftrue) ∷ ‵ ((MutSlice (named 0) κ K.the_row).own_val xl (sl ∷ [])) ∷ []) ∵

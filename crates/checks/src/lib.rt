@@ -1,7 +1,7 @@
 // Pending checks as one lent slice of records, and how many of them are in use.
 ghost use Rattle.std.specs.Prelude.{◌≡◌, set};
-ghost use Rattle.pending.specs.Pending.{emptyAnswer, emptyLists, entry_at};
-ghost use Rattle.checks.specs.Records.{listed, answerTo, withOne};
+ghost use Rattle.pending.specs.Pending.{empty_answer, empty_lists, entry_at};
+ghost use Rattle.checks.specs.Records.{listed, answer_to, with_one};
 ghost use Rattle.checks.specs.Places.{Fits};
 
 use pending::{Counted, Entry};
@@ -61,7 +61,7 @@ fn place_for(room: usize, count: usize, p: Pending) -> Placed
 
 // Lists one check. Where no list is lent, none is listed and nothing refused.
 pub fn append(list: &mut [Pending], count: usize, p: Pending) -> Counted
-    ensures { (result ≡ answerTo p count list.old) × (listed (withOne p count list.old).count list.new ≡ withOne p count list.old) }
+    ensures { (result ≡ answer_to p count list.old) × (listed (with_one p count list.old).count list.new ≡ with_one p count list.old) }
 {
     let r = place_for(list.len(), count, p);
     note_at(list, r.place, p);
@@ -70,7 +70,7 @@ pub fn append(list: &mut [Pending], count: usize, p: Pending) -> Counted
 
 // Empties the list: the count is 0 then, and the records stay.
 pub fn empty(list: &mut [Pending], count: usize) -> Counted
-    ensures { (result ≡ emptyAnswer (listed count list.old)) × (listed (emptyLists (listed count list.old)).count list.new ≡ emptyLists (listed count list.old)) }
+    ensures { (result ≡ empty_answer (listed count list.old)) × (listed (empty_lists (listed count list.old)).count list.new ≡ empty_lists (listed count list.old)) }
 {
     if list.len() < count {
         return Counted::Refused(Refusal::Malformed);

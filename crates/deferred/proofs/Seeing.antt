@@ -10,10 +10,10 @@ use Rattle.state.specs.Registers.{Registers, holds, place, normalise}
 use Rattle.state.proofs.Files.{kept-settled, waits-settled}
 use Rattle.state.proofs.Normal.{bounds-stay}
 use Rattle.effect.specs.Effects.{seen}
-use Rattle.deferred.specs.Sources.{normaliseEach}
+use Rattle.deferred.specs.Sources.{normalise_each}
 
-abbrev valueIn : List ℕ → List Bool → ℕ → ℕ
-valueIn vs fs j = value_of (held_of (get_or fs j false) (get_or vs j 0))
+abbrev value_in : List ℕ → List Bool → ℕ → ℕ
+value_in vs fs j = value_of (held_of (get_or fs j false) (get_or vs j 0))
 
 nothing : (f : Bool) → value_of (held_of f 0) ≡ 0
 unfolding value_of held_of
@@ -21,7 +21,7 @@ nothing true = refl
 nothing false = refl
 
 -- a register made whole at its value: no value moves, whatever the lists' lengths
-value_set : (vs : List ℕ) (fs : List Bool) (k j : ℕ) → valueIn (set vs k (valueIn vs fs k)) (set fs k false) j ≡ valueIn vs fs j
+value_set : (vs : List ℕ) (fs : List Bool) (k j : ℕ) → value_in (set vs k (value_in vs fs k)) (set fs k false) j ≡ value_in vs fs j
 unfolding value_of held_of
 value_set [] fs k j = nothing (get_or (set fs k false) j false) ∙ sym (nothing (get_or fs j false))
 value_set (v ∷ vs) [] zero zero = refl
@@ -34,8 +34,8 @@ value_set (v ∷ vs) (f ∷ fs) (suc k) zero = refl
 value_set (v ∷ vs) (f ∷ fs) (suc k) (suc j) = value_set vs fs k j
 
 value-placed : (k b : ℕ) (R : Registers) (j : ℕ)
-    → valueIn (place k (valueIn R.values R.accumulated k) false b R).values (place k (valueIn R.values R.accumulated k) false b R).accumulated j
-    ≡ valueIn R.values R.accumulated j
+    → value_in (place k (value_in R.values R.accumulated k) false b R).values (place k (value_in R.values R.accumulated k) false b R).accumulated j
+    ≡ value_in R.values R.accumulated j
 unfolding place
 value-placed zero b R j = refl
 value-placed (suc k) b R j = value_set R.values R.accumulated (suc k) j
@@ -51,7 +51,7 @@ seen-normalise pc n R =
     (fun_ext (λ m. value_stays n m R))
     (fun_ext (λ m. rw (bounds-stay n R)))
 
-pub seen-each : (pc : ℕ) (ns : List ℕ) (R : Registers) → seen pc (normaliseEach ns R) ≡ seen pc R
-unfolding normaliseEach
+pub seen-each : (pc : ℕ) (ns : List ℕ) (R : Registers) → seen pc (normalise_each ns R) ≡ seen pc R
+unfolding normalise_each
 seen-each pc [] R = refl
 seen-each pc (n ∷ ns) R = seen-each pc ns (normalise n R) ∙ seen-normalise pc n R

@@ -8,8 +8,8 @@ use native.Mathlib.Omega.{arith}
 use Rattle.state.specs.Held.{Held, Whole, Limbs, value_of, low_of, high_of, settled, kept, waits}
 use Rattle.state.specs.Registers.{Registers, place}
 use Rattle.state.proofs.Normal.{settled-whole}
-use Rattle.deferred.specs.Limbs.{sumInto, covers}
-use Rattle.deferred.specs.Plan.{limbsOf}
+use Rattle.deferred.specs.Limbs.{sum_into, covers}
+use Rattle.deferred.specs.Plan.{limbs_of}
 use Rattle.deferred.specs.declared.sums.Operand.{Operand}
 
 both_true : (a b : Bool) → (a && b) ≡ true → (a ≡ true) × (b ≡ true)
@@ -22,23 +22,23 @@ fits-true low high e = let t = both_true _ _ e in (ltb-true _ _ t.0, ltb-true _ 
 pub covers-true : (x y : Held) → covers x y ≡ true → (low_of y ≤ low_of x) × (high_of y ≤ high_of x)
 covers-true x y e = let t = both_true _ _ e in (leb-true _ _ t.0, leb-true _ _ t.1)
 
-pub covers-limbs : (x y : Operand) → covers (limbsOf x) (limbsOf y) ≡ true → (y.low ≤ x.low) × (y.high ≤ x.high)
+pub covers-limbs : (x y : Operand) → covers (limbs_of x) (limbs_of y) ≡ true → (y.low ≤ x.low) × (y.high ≤ x.high)
 unfolding low_of high_of
-covers-limbs x y e = covers-true (limbsOf x) (limbsOf y) e
+covers-limbs x y e = covers-true (limbs_of x) (limbs_of y) e
 
 module _ (rd n : ℕ) (x y : Operand) (R T : Registers) where
   pub waited : (ltb (x.low + y.low) (2 ^ 30) && ltb (x.high + y.high) (2 ^ 30)) ≡ true
-      → place (rd % 16) (x.low + y.low + 2 ^ 30 * (x.high + y.high)) true n R ≡ sumInto rd (limbsOf x) (limbsOf y) n R T
-  unfolding sumInto kept waits low_of high_of
+      → place (rd % 16) (x.low + y.low + 2 ^ 30 * (x.high + y.high)) true n R ≡ sum_into rd (limbs_of x) (limbs_of y) n R T
+  unfolding sum_into kept waits low_of high_of
   waited t = rw t
 
   -- a and c are the values of x and y
   pub forced : (a c : ℕ) → (ltb (x.low + y.low) (2 ^ 30) && ltb (x.high + y.high) (2 ^ 30)) ≡ false
-      → a ≡ value_of (limbsOf x) → c ≡ value_of (limbsOf y)
+      → a ≡ value_of (limbs_of x) → c ≡ value_of (limbs_of y)
       → place (rd % 16) (a % 2 ^ 20 + c % 2 ^ 20 + 2 ^ 30 * (a / 2 ^ 20 % 2 ^ 20 + c / 2 ^ 20 % 2 ^ 20)) true n T
-      ≡ sumInto rd (limbsOf x) (limbsOf y) n R T
-  unfolding sumInto kept waits low_of high_of
-  forced a c t i j = rw (t, settled-whole (limbsOf x), settled-whole (limbsOf y), i, j)
+      ≡ sum_into rd (limbs_of x) (limbs_of y) n R T
+  unfolding sum_into kept waits low_of high_of
+  forced a c t i j = rw (t, settled-whole (limbs_of x), settled-whole (limbs_of y), i, j)
 
 -- a whole register's limbs, normalised as those of an accumulated one, are its limbs
 settled-limbs : (h : Held) → (low_of (settled (Limbs (low_of h) (high_of h))) ≡ low_of (settled h)) × (high_of (settled (Limbs (low_of h) (high_of h))) ≡ high_of (settled h))
@@ -47,7 +47,7 @@ settled-limbs (Whole n) = (omega arith, omega arith)
 settled-limbs (Limbs low high) = (refl, refl)
 
 pub sum-of-limbs : (rd : ℕ) (x y : Held) (n : ℕ) (R T : Registers)
-    → sumInto rd (Limbs (low_of x) (high_of x)) (Limbs (low_of y) (high_of y)) n R T ≡ sumInto rd x y n R T
-unfolding sumInto low_of high_of kept
+    → sum_into rd (Limbs (low_of x) (high_of x)) (Limbs (low_of y) (high_of y)) n R T ≡ sum_into rd x y n R T
+unfolding sum_into low_of high_of kept
 sum-of-limbs rd x y n R T =
     rw ((settled-limbs x).0, (settled-limbs x).1, (settled-limbs y).0, (settled-limbs y).1)

@@ -10,20 +10,20 @@ use Rattle.deferred.specs.declared.sums.Plan.{Plan}
 abbrev pub operand : Held → ℕ → Operand
 operand h b = record { low = low_of h; high = high_of h; bound = b }
 
-abbrev pub limbsOf : Operand → Held
-limbsOf o = Limbs o.low o.high
+abbrev pub limbs_of : Operand → Held
+limbs_of o = Limbs o.low o.high
 
 abbrev pub Small : Operand → Type 0
 Small o = (o.low < 2 ^ 30) × (o.high < 2 ^ 34)
 
-abbrev pub settledFor : Plan → ℕ → Registers → Registers
-settledFor k rs1 R = cond k.forced (normalise k.rs2 (normalise rs1 R)) R
+abbrev pub settled_for : Plan → ℕ → Registers → Registers
+settled_for k rs1 R = cond k.forced (normalise k.rs2 (normalise rs1 R)) R
 
-abbrev pub plannedInto : Plan → ℕ → ℕ → Registers → Registers
-plannedInto k rd rs1 R = place (rd % 16) k.kept true k.bound (settledFor k rs1 R)
+abbrev pub planned_into : Plan → ℕ → ℕ → Registers → Registers
+planned_into k rd rs1 R = place (rd % 16) k.kept true k.bound (settled_for k rs1 R)
 
 abbrev pub planned : Plan → ℕ → ℕ → Registers → Limbed
-planned k rd rs1 R = cond k.waits (limbed true (plannedInto k rd rs1 R)) (limbed false R)
+planned k rd rs1 R = cond k.waits (limbed true (planned_into k rd rs1 R)) (limbed false R)
 
 -- of whatever rd, rs1 and registers, since it is decided from the operands alone
 abbrev pub Plans : Plan → (ℕ → ℕ → Registers → Limbed) → Type 0

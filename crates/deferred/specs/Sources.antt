@@ -23,6 +23,6 @@ sources Ecall = 1 ∷ 2 ∷ 3 ∷ 4 ∷ 5 ∷ 6 ∷ 7 ∷ 8 ∷ 9 ∷ 10 ∷ 11 
 sources Ebreak = []
 
 -- one after another
-unfoldable pub normaliseEach : List ℕ → Registers → Registers
-normaliseEach [] R = R
-normaliseEach (n ∷ ns) R = normaliseEach ns (normalise n R)
+unfoldable pub normalise_each : List ℕ → Registers → Registers
+normalise_each [] R = R
+normalise_each (n ∷ ns) R = normalise_each ns (normalise n R)

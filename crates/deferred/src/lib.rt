@@ -2,13 +2,13 @@
 // low + 2^30 * high. What is kept is decided before anything changes.
 ghost use Rattle.std.specs.Prelude.{◌≡◌, true, cond};
 ghost use Rattle.state.specs.Registers.{registers, held_at, bound_at, normalise, Becomes};
-ghost use Rattle.effect.specs.Notes.{documentNotes};
-ghost use Rattle.effect.specs.Tables.{isRegisters, isImmediate};
-ghost use Rattle.instruction.specs.Operands.{instructionOf};
+ghost use Rattle.effect.specs.Notes.{document_notes};
+ghost use Rattle.effect.specs.Tables.{is_registers, is_immediate};
+ghost use Rattle.instruction.specs.Operands.{instruction_of};
 ghost use Rattle.instruction.specs.declared.Instruction.TheVariants.{Sub};
-ghost use Rattle.deferred.specs.Limbs.{added, addedImm, limbed, limbs, limbsIf};
+ghost use Rattle.deferred.specs.Limbs.{added, added_imm, limbed, limbs, limbs_if};
 ghost use Rattle.opcode.specs.Opcodes.{form_of};
-ghost use Rattle.deferred.specs.Plan.{operand, Small, plannedInto, planned};
+ghost use Rattle.deferred.specs.Plan.{operand, Small, planned_into, planned};
 
 use instruction::Parts;
 use opcode::Opcode;
@@ -33,7 +33,7 @@ fn operand_at<'a>(
 }
 
 fn add<'a>(p: Parts, regs: &'a [u64; 16], accumulated: &'a [bool; 16], bounds: &'a [u8; 16]) -> Plan
-    ensures { planned result p.a p.b (registers regs.now accumulated.now bounds.now) ≡ limbed true (added documentNotes p.a p.b p.c (registers regs.now accumulated.now bounds.now)) }
+    ensures { planned result p.a p.b (registers regs.now accumulated.now bounds.now) ≡ limbed true (added document_notes p.a p.b p.c (registers regs.now accumulated.now bounds.now)) }
 {
     sums::sum(
         operand_at(regs, accumulated, bounds, p.b),
@@ -48,7 +48,7 @@ fn add_immediate<'a>(
     accumulated: &'a [bool; 16],
     bounds: &'a [u8; 16],
 ) -> Plan
-    ensures { planned result p.a p.b (registers regs.now accumulated.now bounds.now) ≡ limbed true (addedImm documentNotes p.a p.b p.imm (registers regs.now accumulated.now bounds.now)) }
+    ensures { planned result p.a p.b (registers regs.now accumulated.now bounds.now) ≡ limbed true (added_imm document_notes p.a p.b p.imm (registers regs.now accumulated.now bounds.now)) }
 {
     sums::sum(
         operand_at(regs, accumulated, bounds, p.b),
@@ -58,7 +58,7 @@ fn add_immediate<'a>(
 }
 
 fn sub<'a>(p: Parts, regs: &'a [u64; 16], accumulated: &'a [bool; 16], bounds: &'a [u8; 16]) -> Plan
-    ensures { planned result p.a p.b (registers regs.now accumulated.now bounds.now) ≡ limbs documentNotes (Sub p.a p.b p.c) (registers regs.now accumulated.now bounds.now) }
+    ensures { planned result p.a p.b (registers regs.now accumulated.now bounds.now) ≡ limbs document_notes (Sub p.a p.b p.c) (registers regs.now accumulated.now bounds.now) }
 {
     sums::difference(
         operand_at(regs, accumulated, bounds, p.b),
@@ -89,7 +89,7 @@ fn carry_out(
     accumulated: &mut [bool; 16],
     bounds: &mut [u8; 16],
 )
-    ensures { registers regs.new accumulated.new bounds.new ≡ plannedInto k rd rs1 (registers regs.old accumulated.old bounds.old) }
+    ensures { registers regs.new accumulated.new bounds.new ≡ planned_into k rd rs1 (registers regs.old accumulated.old bounds.old) }
 {
     normalise_if(k.forced, regs, accumulated, rs1, k.rs2);
     registers::write(regs, accumulated, bounds, rd, k.kept, true, k.bound);
@@ -101,7 +101,7 @@ fn plan_of_registers<'a>(
     accumulated: &'a [bool; 16],
     bounds: &'a [u8; 16],
 ) -> Plan
-    ensures { planned result p.a p.b (registers regs.now accumulated.now bounds.now) ≡ limbsIf (isRegisters (form_of p.op)) documentNotes (instructionOf p) (registers regs.now accumulated.now bounds.now) }
+    ensures { planned result p.a p.b (registers regs.now accumulated.now bounds.now) ≡ limbs_if (is_registers (form_of p.op)) document_notes (instruction_of p) (registers regs.now accumulated.now bounds.now) }
 {
     let op = p.op;
     if opcode::same(op, Opcode::Add) {
@@ -119,7 +119,7 @@ fn plan_of_immediate<'a>(
     accumulated: &'a [bool; 16],
     bounds: &'a [u8; 16],
 ) -> Plan
-    ensures { planned result p.a p.b (registers regs.now accumulated.now bounds.now) ≡ limbsIf (isImmediate (form_of p.op)) documentNotes (instructionOf p) (registers regs.now accumulated.now bounds.now) }
+    ensures { planned result p.a p.b (registers regs.now accumulated.now bounds.now) ≡ limbs_if (is_immediate (form_of p.op)) document_notes (instruction_of p) (registers regs.now accumulated.now bounds.now) }
 {
     let op = p.op;
     if opcode::same(op, Opcode::Addi) {
@@ -135,7 +135,7 @@ pub fn limbs_of_registers(
     accumulated: &mut [bool; 16],
     bounds: &mut [u8; 16],
 ) -> bool
-    ensures { limbed result (registers regs.new accumulated.new bounds.new) ≡ limbsIf (isRegisters (form_of p.op)) documentNotes (instructionOf p) (registers regs.old accumulated.old bounds.old) }
+    ensures { limbed result (registers regs.new accumulated.new bounds.new) ≡ limbs_if (is_registers (form_of p.op)) document_notes (instruction_of p) (registers regs.old accumulated.old bounds.old) }
 {
     let k = plan_of_registers(p, regs, accumulated, bounds);
     if k.waits {
@@ -152,7 +152,7 @@ pub fn limbs_of_immediate(
     accumulated: &mut [bool; 16],
     bounds: &mut [u8; 16],
 ) -> bool
-    ensures { limbed result (registers regs.new accumulated.new bounds.new) ≡ limbsIf (isImmediate (form_of p.op)) documentNotes (instructionOf p) (registers regs.old accumulated.old bounds.old) }
+    ensures { limbed result (registers regs.new accumulated.new bounds.new) ≡ limbs_if (is_immediate (form_of p.op)) document_notes (instruction_of p) (registers regs.old accumulated.old bounds.old) }
 {
     let k = plan_of_immediate(p, regs, accumulated, bounds);
     if k.waits {

@@ -1,10 +1,10 @@
 // The sums and differences of limbs, in numbers alone.
 ghost use Rattle.std.specs.Prelude.{◌≡◌, true, false, cond, ◌&&◌, ◌+◌, ◌-◌, ◌*◌, ◌/◌, ◌%◌, ◌^◌, ltb};
-ghost use Rattle.bound.specs.Bits.{bits_of, afterAdd, afterLarger};
+ghost use Rattle.bound.specs.Bits.{bits_of, after_add, after_larger};
 ghost use Rattle.state.specs.Held.{Whole, Limbs, value_of};
 ghost use Rattle.state.specs.Registers.{put, normalise};
-ghost use Rattle.deferred.specs.Limbs.{sumInto, covers, limbed};
-ghost use Rattle.deferred.specs.Plan.{operand, limbsOf, Small, Plans};
+ghost use Rattle.deferred.specs.Limbs.{sum_into, covers, limbed};
+ghost use Rattle.deferred.specs.Plan.{operand, limbs_of, Small, Plans};
 
 // The limbs of a register or of an immediate, and its bound.
 #[derive(Drop)]
@@ -58,7 +58,7 @@ fn fit(low: u64, high: u64) -> bool
 
 fn value(x: Operand) -> u64
     requires { Small x }
-    ensures { result ≡ value_of (limbsOf x) }
+    ensures { result ≡ value_of (limbs_of x) }
 {
     (x.low + 0x10_0000 * x.high) % 0x100_0000_0000
 }
@@ -74,7 +74,7 @@ fn sum_of_whole(a: u64, b: u64) -> u64
 
 pub(crate) fn sum(x: Operand, y: Operand, rs2: u8) -> Plan
     requires { Small x × Small y }
-    ensures { Plans result (λ rd rs1 R. limbed true (sumInto rd (limbsOf x) (limbsOf y) (afterAdd x.bound y.bound) R (normalise rs2 (normalise rs1 R)))) }
+    ensures { Plans result (λ rd rs1 R. limbed true (sum_into rd (limbs_of x) (limbs_of y) (after_add x.bound y.bound) R (normalise rs2 (normalise rs1 R)))) }
 {
     let bound = bound::after_add(x.bound, y.bound);
     let low = x.low + y.low;
@@ -98,7 +98,7 @@ pub(crate) fn sum(x: Operand, y: Operand, rs2: u8) -> Plan
 }
 
 fn covered(x: Operand, y: Operand) -> bool
-    ensures { result ≡ covers (limbsOf x) (limbsOf y) }
+    ensures { result ≡ covers (limbs_of x) (limbs_of y) }
 {
     if y.low <= x.low {
         return y.high <= x.high;
@@ -109,7 +109,7 @@ fn covered(x: Operand, y: Operand) -> bool
 // By limbs only if neither limb borrows.
 pub(crate) fn difference(x: Operand, y: Operand) -> Plan
     requires { Small x }
-    ensures { Plans result (λ rd rs1 R. cond (covers (limbsOf x) (limbsOf y)) (limbed true (put R rd (Limbs (x.low - y.low) (x.high - y.high)) (afterLarger x.bound y.bound))) (limbed false R)) }
+    ensures { Plans result (λ rd rs1 R. cond (covers (limbs_of x) (limbs_of y)) (limbed true (put R rd (Limbs (x.low - y.low) (x.high - y.high)) (after_larger x.bound y.bound))) (limbed false R)) }
 {
     if !covered(x, y) {
         return unplanned();

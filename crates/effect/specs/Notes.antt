@@ -1,8 +1,8 @@
 -- The notes of bounds, as a record that the definitions of instructions take: document 01's rules are one.
 use Rattle.std.specs.Prelude.{ℕ, ◌%◌}
-use Rattle.bound.specs.Bits.{bits_of, afterAdd, afterLarger, afterMul, afterDiv, afterAnd, afterShl, afterSrl, afterSra, after_cmp, afterLoad}
+use Rattle.bound.specs.Bits.{bits_of, after_add, after_larger, after_mul, after_div, after_and, after_shl, after_srl, after_sra, after_cmp, after_load}
 use Rattle.memory.specs.Memory.{size_of}
-use Rattle.effect.specs.Operations.{loadSize}
+use Rattle.effect.specs.Operations.{load_size}
 use Rattle.instruction.specs.declared.Division.{Division}
 use Rattle.instruction.specs.declared.LoadKind.{LoadKind}
 use Rattle.instruction.specs.declared.Operation.{Operation}
@@ -21,31 +21,31 @@ pub record Notes : Type 0 where
   pub link : ℕ → ℕ
 
 -- "Sub, Or, Xor: larger. Mul, Mulh: sum. .. And: smaller. Left shift .. Srl .. Sra .. Comparison 1."
-unfoldable pub resultBits : Operation → ℕ → ℕ → ℕ → ℕ
-resultBits Mulh x y b = afterMul x y
-resultBits And x y b = afterAnd x y
-resultBits Or x y b = afterLarger x y
-resultBits Xor x y b = afterLarger x y
-resultBits Sll x y b = afterShl x (b % 64)
-resultBits Srl x y b = afterSrl x (b % 64)
-resultBits Sra x y b = afterSra x (b % 64)
-resultBits Slt x y b = after_cmp
-resultBits Sltu x y b = after_cmp
-resultBits Sge x y b = after_cmp
-resultBits Sgeu x y b = after_cmp
-resultBits Seq x y b = after_cmp
-resultBits Sne x y b = after_cmp
+unfoldable pub result_bits : Operation → ℕ → ℕ → ℕ → ℕ
+result_bits Mulh x y b = after_mul x y
+result_bits And x y b = after_and x y
+result_bits Or x y b = after_larger x y
+result_bits Xor x y b = after_larger x y
+result_bits Sll x y b = after_shl x (b % 64)
+result_bits Srl x y b = after_srl x (b % 64)
+result_bits Sra x y b = after_sra x (b % 64)
+result_bits Slt x y b = after_cmp
+result_bits Sltu x y b = after_cmp
+result_bits Sge x y b = after_cmp
+result_bits Sgeu x y b = after_cmp
+result_bits Seq x y b = after_cmp
+result_bits Sne x y b = after_cmp
 
-abbrev pub documentNotes : Notes
-documentNotes =
+abbrev pub document_notes : Notes
+document_notes =
     record {
-      sum = afterAdd;
-      difference = afterLarger;
-      product = afterMul;
-      quotient = λ op x y. afterDiv x;
-      result = resultBits;
-      moved = afterLarger;
-      loaded = λ op. afterLoad (size_of (loadSize op));
+      sum = after_add;
+      difference = after_larger;
+      product = after_mul;
+      quotient = λ op x y. after_div x;
+      result = result_bits;
+      moved = after_larger;
+      loaded = λ op. after_load (size_of (load_size op));
       immediate = bits_of;
       link = bits_of;
     }

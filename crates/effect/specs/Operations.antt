@@ -3,8 +3,8 @@
 use Rattle.std.specs.Prelude.{ℕ, ◌+◌, ◌%◌, ◌^◌, Bool, not, eqb}
 use Rattle.encoding.specs.Fields.{extended}
 use Rattle.value.specs.Forty.{and40, or40, xor40, shl40, shr40, sra40, slt40, ult40}
-use Rattle.value.specs.Product.{mulhOf}
-use Rattle.value.specs.Division.{div_of, divuOf, remOf, remuOf}
+use Rattle.value.specs.Product.{mulh_of}
+use Rattle.value.specs.Division.{div_of, divu_of, rem_of, remu_of}
 use Rattle.memory.specs.Bytes.{bit}
 use Rattle.memory.specs.declared.Size.{Size}
 use Rattle.memory.specs.declared.Size.TheVariants.{Byte, Half, Word, Double}
@@ -29,13 +29,13 @@ plus64 a b = (a + b) % 2 ^ 64
 
 unfoldable pub divided : Division → ℕ → ℕ → ℕ
 divided Div a b = div_of a b
-divided Divu a b = divuOf a b
-divided Rem a b = remOf a b
-divided Remu a b = remuOf a b
+divided Divu a b = divu_of a b
+divided Rem a b = rem_of a b
+divided Remu a b = remu_of a b
 
 -- a register's shift amount is its low six bits
 unfoldable pub result : Operation → ℕ → ℕ → ℕ
-result Mulh a b = mulhOf a b
+result Mulh a b = mulh_of a b
 result And a b = and40 a b
 result Or a b = or40 a b
 result Xor a b = xor40 a b
@@ -50,13 +50,13 @@ result Seq a b = bit (eqb a b)
 result Sne a b = bit (not (eqb a b))
 
 -- an immediate form is the register form with the immediate for its second operand
-unfoldable pub registerForm : ImmOperation → Operation
-registerForm Andi = And
-registerForm Ori = Or
-registerForm Xori = Xor
-registerForm Slli = Sll
-registerForm Srli = Srl
-registerForm Srai = Sra
+unfoldable pub register_form : ImmOperation → Operation
+register_form Andi = And
+register_form Ori = Or
+register_form Xori = Xor
+register_form Slli = Sll
+register_form Srli = Srl
+register_form Srai = Sra
 
 -- whether a move happens, by rs2
 unfoldable pub moves : MoveKind → ℕ → Bool
@@ -73,13 +73,13 @@ taken Bge a b = not (slt40 a b)
 taken Bltu a b = ult40 a b
 taken Bgeu a b = not (ult40 a b)
 
-unfoldable pub loadSize : LoadKind → Size
-loadSize Lb = Byte
-loadSize Lbu = Byte
-loadSize Lh = Half
-loadSize Lhu = Half
-loadSize Lw = Word
-loadSize Ld = Double
+unfoldable pub load_size : LoadKind → Size
+load_size Lb = Byte
+load_size Lbu = Byte
+load_size Lh = Half
+load_size Lhu = Half
+load_size Lw = Word
+load_size Ld = Double
 
 -- what a load makes of the number it read: Lb and Lh extend it by its sign, the others by zeros
 unfoldable pub loaded : LoadKind → ℕ → ℕ
@@ -90,8 +90,8 @@ loaded Lhu v = v
 loaded Lw v = v
 loaded Ld v = v
 
-unfoldable pub storeSize : StoreKind → Size
-storeSize Sb = Byte
-storeSize Sh = Half
-storeSize Sw = Word
-storeSize Sd = Double
+unfoldable pub store_size : StoreKind → Size
+store_size Sb = Byte
+store_size Sh = Half
+store_size Sw = Word
+store_size Sd = Double

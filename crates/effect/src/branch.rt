@@ -1,12 +1,12 @@
 // The branches, on the values of two registers.
 ghost use Rattle.std.specs.Prelude.{◌≡◌};
-ghost use Rattle.instruction.specs.Kinds.{branchKindOf};
+ghost use Rattle.instruction.specs.Kinds.{branch_kind_of};
 ghost use Rattle.effect.specs.Operations.{taken};
 
 use opcode::Opcode;
 
 pub fn taken(op: Opcode, s: u64, t: u64) -> bool
-    ensures { result ≡ taken (branchKindOf op) s t }
+    ensures { result ≡ taken (branch_kind_of op) s t }
 {
     match op {
         Opcode::Bne => s != t,

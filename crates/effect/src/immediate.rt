@@ -4,8 +4,8 @@ ghost use Rattle.bound.specs.Bits.{bits_of};
 ghost use Rattle.opcode.specs.Opcodes.{form_of};
 ghost use Rattle.instruction.specs.declared.LoadKind.TheVariants as K;
 ghost use Rattle.effect.specs.Operations.{plus64, loaded};
-ghost use Rattle.effect.specs.Effects.{writes, onLoaded};
-ghost use Rattle.effect.specs.Tables.{Where, isImmediate, isShift, Turns, DecidesOne, DecidesShift};
+ghost use Rattle.effect.specs.Effects.{writes, on_loaded};
+ghost use Rattle.effect.specs.Tables.{Where, is_immediate, is_shift, Turns, DecidesOne, DecidesShift};
 ghost use Rattle.effect.specs.declared.immediate.Turn.TheVariants as T;
 
 use memory::{Loaded, Size};
@@ -51,7 +51,7 @@ fn links(o: Source, next: u64) -> Turn
 }
 
 fn loaded(o: Source, l: Loaded, bound: u8) -> Turn
-    ensures { Turns result (λ rd. onLoaded (λ v. writes rd v bound (plus64 o.pc 4)) l) }
+    ensures { Turns result (λ rd. on_loaded (λ v. writes rd v bound (plus64 o.pc 4)) l) }
 {
     match l {
         Loaded::Value(v) => writes(o, v, bound),
@@ -60,7 +60,7 @@ fn loaded(o: Source, l: Loaded, bound: u8) -> Turn
 }
 
 fn loaded_8(o: Source, l: Loaded) -> Turn
-    ensures { Turns result (λ rd. onLoaded (λ v. writes rd (loaded K.Lb v) 8 (plus64 o.pc 4)) l) }
+    ensures { Turns result (λ rd. on_loaded (λ v. writes rd (loaded K.Lb v) 8 (plus64 o.pc 4)) l) }
 {
     match l {
         Loaded::Value(v) => writes(o, value::extension::extend_8((v % 0x100) as u8), 8),
@@ -69,7 +69,7 @@ fn loaded_8(o: Source, l: Loaded) -> Turn
 }
 
 fn loaded_16(o: Source, l: Loaded) -> Turn
-    ensures { Turns result (λ rd. onLoaded (λ v. writes rd (loaded K.Lh v) 16 (plus64 o.pc 4)) l) }
+    ensures { Turns result (λ rd. on_loaded (λ v. writes rd (loaded K.Lh v) 16 (plus64 o.pc 4)) l) }
 {
     match l {
         Loaded::Value(v) => writes(o, value::extension::extend_16((v % 0x1_0000) as u16), 16),
@@ -84,7 +84,7 @@ fn address(o: Source) -> u64
 }
 
 pub fn decide(op: Opcode, o: Source, m: &[u8]) -> Turn
-    ensures { Where (isImmediate (form_of op)) (DecidesOne op o m.now result) (result ≡ T.Writes 0 0 0) }
+    ensures { Where (is_immediate (form_of op)) (DecidesOne op o m.now result) (result ≡ T.Writes 0 0 0) }
 {
     match op {
         Opcode::Addi => writes(
@@ -123,7 +123,7 @@ pub fn decide(op: Opcode, o: Source, m: &[u8]) -> Turn
 }
 
 pub fn shift(op: Opcode, o: Source) -> Turn
-    ensures { Where (isShift (form_of op)) (DecidesShift op o result) (result ≡ T.Writes 0 0 0) }
+    ensures { Where (is_shift (form_of op)) (DecidesShift op o result) (result ≡ T.Writes 0 0 0) }
 {
     match op {
         Opcode::Slli => writes(

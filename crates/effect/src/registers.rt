@@ -1,14 +1,14 @@
 // The instructions on two registers.
 ghost use Rattle.std.specs.Prelude.{◌≡◌, cond, eqb};
-ghost use Rattle.refusal.specs.Stops.{refusalOf};
+ghost use Rattle.refusal.specs.Stops.{refusal_of};
 ghost use Rattle.memory.specs.Bytes.{bit};
-ghost use Rattle.bound.specs.Bits.{afterDiv, after_cmp, afterLarger};
+ghost use Rattle.bound.specs.Bits.{after_div, after_cmp, after_larger};
 ghost use Rattle.opcode.specs.Opcodes.{form_of};
 ghost use Rattle.effect.specs.Operations.{plus64};
 ghost use Rattle.effect.specs.Outcomes.{On};
 ghost use Rattle.effect.specs.Outcomes as U;
-ghost use Rattle.effect.specs.Effects.{writes, writesChecked, goesTo};
-ghost use Rattle.effect.specs.Tables.{Where, isRegisters, Comes, DecidesTwo};
+ghost use Rattle.effect.specs.Effects.{writes, writes_checked, goes_to};
+ghost use Rattle.effect.specs.Tables.{Where, is_registers, Comes, DecidesTwo};
 ghost use Rattle.effect.specs.declared.registers.Deed.TheVariants as D;
 
 use memory::bytes::bit;
@@ -42,7 +42,7 @@ fn writes(value: u64, bound: u8) -> Deed
 }
 
 fn checks(value: u64, bound: u8) -> Deed
-    ensures { Comes result (λ rd pc. writesChecked rd value bound (plus64 pc 4)) }
+    ensures { Comes result (λ rd pc. writes_checked rd value bound (plus64 pc 4)) }
 {
     if bound::needs_check(bound) {
         return Deed::Checks { bound, value };
@@ -57,7 +57,7 @@ fn sets(t: bool) -> Deed
 }
 
 fn divides(o: Operands, value: u64) -> Deed
-    ensures { Comes result (λ rd pc. cond (eqb o.t 0) (U.Refuses (refusalOf 1 o.pc)) (writes rd value (afterDiv o.y) (plus64 pc 4))) }
+    ensures { Comes result (λ rd pc. cond (eqb o.t 0) (U.Refuses (refusal_of 1 o.pc)) (writes rd value (after_div o.y) (plus64 pc 4))) }
 {
     if o.t == 0 {
         return Deed::Refuses(Refusal::DivisorZero { pc: o.pc });
@@ -66,7 +66,7 @@ fn divides(o: Operands, value: u64) -> Deed
 }
 
 fn moves(o: Operands, happens: bool) -> Deed
-    ensures { Comes result (λ rd pc. cond happens (writes rd o.s (afterLarger o.y o.x) (plus64 pc 4)) (goesTo (plus64 pc 4) On)) }
+    ensures { Comes result (λ rd pc. cond happens (writes rd o.s (after_larger o.y o.x) (plus64 pc 4)) (goes_to (plus64 pc 4) On)) }
 {
     if happens {
         return writes(o.s, bound::after_larger(o.y, o.x));
@@ -75,7 +75,7 @@ fn moves(o: Operands, happens: bool) -> Deed
 }
 
 pub fn decide(op: Opcode, o: Operands) -> Deed
-    ensures { Where (isRegisters (form_of op)) (DecidesTwo op o result) (result ≡ D.Passes) }
+    ensures { Where (is_registers (form_of op)) (DecidesTwo op o result) (result ≡ D.Passes) }
 {
     match op {
         Opcode::Add => checks(value::forty::add(o.s, o.t), bound::after_add(o.y, o.z)),

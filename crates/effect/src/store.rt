@@ -1,13 +1,13 @@
 // The stores.
 ghost use Rattle.std.specs.Prelude.{◌≡◌};
-ghost use Rattle.instruction.specs.Kinds.{storeKindOf};
-ghost use Rattle.effect.specs.Operations.{storeSize};
+ghost use Rattle.instruction.specs.Kinds.{store_kind_of};
+ghost use Rattle.effect.specs.Operations.{store_size};
 
 use memory::Size;
 use opcode::Opcode;
 
 pub fn store_size(op: Opcode) -> Size
-    ensures { result ≡ storeSize (storeKindOf op) }
+    ensures { result ≡ store_size (store_kind_of op) }
 {
     match op {
         Opcode::Sh => Size::Half,

@@ -8,7 +8,7 @@ use native.Mathlib.Nat.{mod-eq_of_lt, sub-add_cancel}
 use borrow.Author.Tests.{lt-ltb, le-ltb, lt-leb, le-leb, ltb-true, ltb-false, leb-true}
 use lib.Dec.{ltb, leb}
 use lib.Pow.{pow_mono, pow-add, low, suc_ones}
-use Rattle.encoding.specs.Fields.{extended, within, fitsIn}
+use Rattle.encoding.specs.Fields.{extended, within, fits_in}
 use Rattle.encoding.proofs.Signs.{read_low, read-high}
 
 pub extended-low : (h x : ℕ) → suc h ≤ 64 → x < 2 ^ h → extended h x ≡ x
@@ -27,8 +27,8 @@ side x m = by (ltb x m) refl
     by true e = inl (ltb-true x m e)
     by false e = inr (ltb-false x m e)
 
-pub fits-means : (h i : ℕ) → fitsIn h i ≡ true → (i < 2 ^ h) ⊎ ((2 ^ 64 - 2 ^ h ≤ i) × (i < 2 ^ 64))
-unfolding fitsIn
+pub fits-means : (h i : ℕ) → fits_in h i ≡ true → (i < 2 ^ h) ⊎ ((2 ^ 64 - 2 ^ h ≤ i) × (i < 2 ^ 64))
+unfolding fits_in
 fits-means h i f = by (ltb i (2 ^ h)) refl (leb (2 ^ 64 - 2 ^ h) i) refl f
   where
     by : (t : Bool) → ltb i (2 ^ h) ≡ t → (u : Bool) → leb (2 ^ 64 - 2 ^ h) i ≡ u → t || (u && leb i (2 ^ 64 - 1)) ≡ true
@@ -52,8 +52,8 @@ module _ (h : ℕ) (fit : suc h ≤ 64) where
       go (inl p) = rw (extended-low h x fit p) (mod-eq_of_lt l)
       go (inr p) = rw (extended-high h x fit p l) (cut x l)
 
-  pub extended_fits : (x : ℕ) → x < 2 ^ suc h → fitsIn h (extended h x) ≡ true
-  unfolding fitsIn
+  pub extended_fits : (x : ℕ) → x < 2 ^ suc h → fits_in h (extended h x) ≡ true
+  unfolding fits_in
   extended_fits x l = go (side x (2 ^ h))
     where
       go : (x < 2 ^ h) ⊎ (2 ^ h ≤ x) → ltb (extended h x) (2 ^ h) || within (2 ^ 64 - 2 ^ h) (2 ^ 64 - 1) (extended h x) ≡ true
@@ -64,7 +64,7 @@ module _ (h : ℕ) (fit : suc h ≤ 64) where
           (le-leb (x + (2 ^ 64 - 2 ^ suc h)) (2 ^ 64 - 1) (omega (arith, pow_mono fit))))
 
   -- a number that fits is extended from its own low bits
-  pub cut-extended : (i : ℕ) → fitsIn h i ≡ true → extended h (i % 2 ^ suc h) ≡ i
+  pub cut-extended : (i : ℕ) → fits_in h i ≡ true → extended h (i % 2 ^ suc h) ≡ i
   cut-extended i f = go (fits-means h i f)
     where
       go : (i < 2 ^ h) ⊎ ((2 ^ 64 - 2 ^ h ≤ i) × (i < 2 ^ 64)) → extended h (i % 2 ^ suc h) ≡ i
@@ -77,8 +77,8 @@ module _ (h : ℕ) (fit : suc h ≤ 64) where
           ∙ ap (extended h) (cut x l) ∙ extended-high h x fit (omega (arith, pow_mono fit)) l ∙ sym e
 
   -- one sum and one comparison decide whether a number fits
-  pub fits-test : (i : ℕ) → i < 2 ^ 64 → ltb ((i + 2 ^ h) % 2 ^ 64) (2 ^ suc h) ≡ fitsIn h i
-  unfolding fitsIn
+  pub fits-test : (i : ℕ) → i < 2 ^ 64 → ltb ((i + 2 ^ h) % 2 ^ 64) (2 ^ suc h) ≡ fits_in h i
+  unfolding fits_in
   fits-test i b = go (side i (2 ^ h)) (side i (2 ^ 64 - 2 ^ h))
     where
       go : (i < 2 ^ h) ⊎ (2 ^ h ≤ i) → (i < 2 ^ 64 - 2 ^ h) ⊎ (2 ^ 64 - 2 ^ h ≤ i)

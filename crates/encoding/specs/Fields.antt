@@ -19,5 +19,5 @@ abbrev pub within : ℕ → ℕ → ℕ → Bool
 within lo hi n = leb lo n && leb n hi
 
 -- whether suc h bits hold the number that i stands for modulo 2^64: 0 to 2 ^ h - 1, or - 2 ^ h to - 1
-unfoldable pub fitsIn : ℕ → ℕ → Bool
-fitsIn h i = ltb i (2 ^ h) || within (2 ^ 64 - 2 ^ h) (2 ^ 64 - 1) i
+unfoldable pub fits_in : ℕ → ℕ → Bool
+fits_in h i = ltb i (2 ^ h) || within (2 ^ 64 - 2 ^ h) (2 ^ 64 - 1) i

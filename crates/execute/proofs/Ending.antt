@@ -6,9 +6,9 @@ use mathlib.Core.Bool.{true, false}
 use mathlib.Core.List.{List, [], ◌∷◌}
 use lib.ListN.{length}
 use borrow.Author.Tests.{le-ltb}
-use Rattle.refusal.specs.Stops.{refusalOf}
+use Rattle.refusal.specs.Stops.{refusal_of}
 use Rattle.refusal.specs.declared.Refusal.{Refusal}
-use Rattle.memory.specs.Memory.{store_of, memoryAfter, onStored}
+use Rattle.memory.specs.Memory.{store_of, memory_after, on_stored}
 use Rattle.memory.specs.declared.Size.{Size}
 use Rattle.memory.specs.declared.Stored.{Stored}
 use Rattle.memory.specs.declared.Stored.TheVariants as M
@@ -16,7 +16,7 @@ use Rattle.state.specs.Held.{Whole}
 use Rattle.state.specs.Registers.{Registers, put, place}
 use Rattle.effect.specs.Outcomes.{Refuses}
 use Rattle.effect.specs.Outcomes as G
-use Rattle.effect.specs.Effects.{writing, goesTo, storesAt, onStorable}
+use Rattle.effect.specs.Effects.{writing, goes_to, stores_at, on_storable}
 use Rattle.pending.specs.Pending.{check, lacks}
 use Rattle.pending.specs.declared.Room.{Room}
 use Rattle.pending.specs.declared.Room.TheVariants.{Unlent, Left}
@@ -40,39 +40,39 @@ module _ (room : Room) (w : World) (R : Registers) (next : ℕ) where
   unfolding done
   went-checks rd v b S e f = rw (e, f)
 
-  pub went-full : (rd v b : ℕ) → lacks room 1 ≡ true → refused (refusalOf 8 w.pc) w ≡ done room (writing true rd v b next) w R
+  pub went-full : (rd v b : ℕ) → lacks room 1 ≡ true → refused (refusal_of 8 w.pc) w ≡ done room (writing true rd v b next) w R
   unfolding done
   went-full rd v b e = rw e
 
-  pub went_to : stepped W.On (world next w.halted R w.memory) [] ≡ done room (goesTo next G.On) w R
+  pub went_to : stepped W.On (world next w.halted R w.memory) [] ≡ done room (goes_to next G.On) w R
   unfolding done place
   went_to = rw (fits-none room)
 
-  pub went_call : stepped W.Ecall (world next w.halted R w.memory) [] ≡ done room (goesTo next G.Ecall) w R
+  pub went_call : stepped W.Ecall (world next w.halted R w.memory) [] ≡ done room (goes_to next G.Ecall) w R
   unfolding done place
   went_call = rw (fits-none room)
 
-  pub went-halt : stepped W.Ebreak (world next true R w.memory) [] ≡ done room (goesTo next G.Ebreak) w R
+  pub went-halt : stepped W.Ebreak (world next true R w.memory) [] ≡ done room (goes_to next G.Ebreak) w R
   unfolding done place
   went-halt = rw (fits-none room)
 
   kept-stores : (size : Size) (address v : ℕ) (t : Stored) → t ≡ M.Done
-      → stepped W.On (world next w.halted R (memoryAfter size w.memory address v)) []
-      ≡ done room (onStorable (storesAt size address v next) t) w R
-  unfolding done onStorable place
+      → stepped W.On (world next w.halted R (memory_after size w.memory address v)) []
+      ≡ done room (on_storable (stores_at size address v next) t) w R
+  unfolding done on_storable place
   kept-stores size address v t f = rw (f, fits-none room)
 
   pub went-stores : (size : Size) (address v : ℕ) (n : List ℕ)
-      → n ≡ memoryAfter size w.memory address v → M.Done ≡ store_of size (length w.memory) address
+      → n ≡ memory_after size w.memory address v → M.Done ≡ store_of size (length w.memory) address
       → stepped W.On (world next w.halted R n) []
-      ≡ done room (onStorable (storesAt size address v next) (store_of size (length w.memory) address)) w R
+      ≡ done room (on_storable (stores_at size address v next) (store_of size (length w.memory) address)) w R
   went-stores size address v n e f = rw e (kept-stores size address v (store_of size (length w.memory) address) (sym f))
 
   pub went-unstored : (size : Size) (address v : ℕ) (n : List ℕ) (r : Refusal)
-      → n ≡ memoryAfter size w.memory address v → M.Refused r ≡ store_of size (length w.memory) address
+      → n ≡ memory_after size w.memory address v → M.Refused r ≡ store_of size (length w.memory) address
       → stepped (W.Refused r) (world w.pc w.halted w.registers n) []
-      ≡ done room (onStorable (storesAt size address v next) (store_of size (length w.memory) address)) w R
-  unfolding done onStorable onStored
+      ≡ done room (on_storable (stores_at size address v next) (store_of size (length w.memory) address)) w R
+  unfolding done on_storable on_stored
   went-unstored size address v n r e f = rw (e, sym f)
 
 pub went-refused : (room : Room) (w : World) (R : Registers) (r : Refusal) → refused r w ≡ done room (Refuses r) w R

@@ -1,13 +1,13 @@
 -- An instruction executed, in the plain and in the deferred mode.
 use Rattle.std.specs.Prelude.{Bool, cond, ◌&&◌, []}
 use Rattle.state.specs.Registers.{Registers}
-use Rattle.state.specs.Formed.{wellFormed, allWhole}
+use Rattle.state.specs.Formed.{well_formed, all_whole}
 use Rattle.effect.specs.Operations.{plus64}
 use Rattle.effect.specs.Notes.{Notes}
 use Rattle.effect.specs.Effects.{seen, effect}
 use Rattle.execute.specs.World.{World, world, Stepped, stepped, done}
 use Rattle.deferred.specs.Limbs.{Limbed}
-use Rattle.execute.specs.Modes.{limbsIn, settleSources}
+use Rattle.execute.specs.Modes.{limbs_in, settle_sources}
 use Rattle.instruction.specs.declared.Instruction.{Instruction}
 use Rattle.execute.specs.declared.Mode.{Mode}
 use Rattle.execute.specs.declared.Mode.TheVariants.{Plain, Deferred}
@@ -24,12 +24,12 @@ onward w R = stepped W.On (world (plus64 w.pc 4) w.halted R w.memory) []
 
 -- the limb form, where the mode has one, or else the instruction on whole values after what the mode normalises
 unfoldable pub finish : Mode → Room → Notes → Instruction → World → Limbed → Stepped
-finish k room N i w l = cond l.waits (onward w l.registers) (wholly room N i w (settleSources k i w.registers))
+finish k room N i w l = cond l.waits (onward w l.registers) (wholly room N i w (settle_sources k i w.registers))
 
 unfoldable pub execute : Mode → Room → Notes → Instruction → World → Stepped
-execute k room N i w = finish k room N i w (limbsIn k N i w.registers)
+execute k room N i w = finish k room N i w (limbs_in k N i w.registers)
 
 -- "A plain step or run given an accumulated register is refused (9)"
 unfoldable pub admits : Mode → Registers → Bool
-admits Plain R = wellFormed R && allWhole R.accumulated
-admits Deferred R = wellFormed R
+admits Plain R = well_formed R && all_whole R.accumulated
+admits Deferred R = well_formed R

@@ -3,15 +3,15 @@ use Rattle.std.specs.Prelude.{false}
 use Rattle.state.specs.Registers.{Registers}
 use Rattle.effect.specs.Notes.{Notes}
 use Rattle.deferred.specs.Limbs.{Limbed, limbed, limbs}
-use Rattle.deferred.specs.Sources.{sources, normaliseEach}
+use Rattle.deferred.specs.Sources.{sources, normalise_each}
 use Rattle.instruction.specs.declared.Instruction.{Instruction}
 use Rattle.execute.specs.declared.Mode.{Mode}
 use Rattle.execute.specs.declared.Mode.TheVariants.{Plain, Deferred}
 
-unfoldable pub limbsIn : Mode → Notes → Instruction → Registers → Limbed
-limbsIn Plain N i R = limbed false R
-limbsIn Deferred N i R = limbs N i R
+unfoldable pub limbs_in : Mode → Notes → Instruction → Registers → Limbed
+limbs_in Plain N i R = limbed false R
+limbs_in Deferred N i R = limbs N i R
 
-unfoldable pub settleSources : Mode → Instruction → Registers → Registers
-settleSources Plain i R = R
-settleSources Deferred i R = normaliseEach (sources i) R
+unfoldable pub settle_sources : Mode → Instruction → Registers → Registers
+settle_sources Plain i R = R
+settle_sources Deferred i R = normalise_each (sources i) R

@@ -1,11 +1,11 @@
 -- All that a step can change, what a step leaves of it, and an effect carried out.
 use Rattle.std.specs.Prelude.{ℕ, Bool, true, cond, List, [], ◌∷◌, length}
-use Rattle.refusal.specs.Stops.{refusalOf}
+use Rattle.refusal.specs.Stops.{refusal_of}
 use Rattle.refusal.specs.declared.Refusal.{Refusal}
-use Rattle.memory.specs.Memory.{memoryAfter}
+use Rattle.memory.specs.Memory.{memory_after}
 use Rattle.state.specs.Held.{Whole}
 use Rattle.state.specs.Registers.{Registers, put}
-use Rattle.state.specs.Formed.{registersOf}
+use Rattle.state.specs.Formed.{registers_of}
 use Rattle.state.specs.declared.State.{State}
 use Rattle.effect.specs.Outcomes.{Goes, Stores, Nothing, Bytes, Effect, Outcome, Does, Refuses}
 use Rattle.effect.specs.Outcomes as G
@@ -23,8 +23,8 @@ pub record World : Type 0 where
 abbrev pub world : ℕ → Bool → Registers → List ℕ → World
 world pc halted R m = record { pc = pc; halted = halted; registers = R; memory = m }
 
-abbrev pub worldOf : State → List ℕ → World
-worldOf s m = world s.pc s.halted (registersOf s) m
+abbrev pub world_of : State → List ℕ → World
+world_of s m = world s.pc s.halted (registers_of s) m
 
 -- how the step went, the world after it, and the checks that it asks for
 pub record Stepped : Type 0 where
@@ -39,10 +39,10 @@ stepped g w cs = record { went = g; world = w; checks = cs }
 abbrev pub refused : Refusal → World → Stepped
 refused r w = stepped (W.Refused r) w []
 
-abbrev pub wentOf : Goes → Went
-wentOf G.On = W.On
-wentOf G.Ebreak = W.Ebreak
-wentOf G.Ecall = W.Ecall
+abbrev pub went_of : Goes → Went
+went_of G.On = W.On
+went_of G.Ebreak = W.Ebreak
+went_of G.Ecall = W.Ecall
 
 -- "Ebreak keeps the pc and marks the halt"; a mark that is set stays
 abbrev pub marked : Goes → Bool → Bool
@@ -52,21 +52,21 @@ marked G.Ecall halted = halted
 
 abbrev pub keeping : Stores → List ℕ → List ℕ
 keeping Nothing m = m
-keeping (Bytes size address v) m = memoryAfter size m address v
+keeping (Bytes size address v) m = memory_after size m address v
 
 -- "the result's value, bound and pc"
-abbrev pub checksFor : Effect → List Check
-checksFor e = cond e.checked (check e.value e.bound ∷ []) []
+abbrev pub checks_for : Effect → List Check
+checks_for e = cond e.checked (check e.value e.bound ∷ []) []
 
 -- an effect on the registers R: the register that it writes is whole
 abbrev pub does : Effect → Bool → Registers → List ℕ → Stepped
 does e halted R m =
     stepped
-    (wentOf e.goes)
+    (went_of e.goes)
     (world e.next (marked e.goes halted) (put R e.rd (Whole e.value) e.bound) (keeping e.stores m))
-    (checksFor e)
+    (checks_for e)
 
 -- "8: check needed, pending list full", which comes after 1, 3 and 2
 unfoldable pub done : Room → Outcome → World → Registers → Stepped
 done room (Refuses r) w R = refused r w
-done room (Does e) w R = cond (lacks room (length (checksFor e))) (refused (refusalOf 8 w.pc) w) (does e w.halted R w.memory)
+done room (Does e) w R = cond (lacks room (length (checks_for e))) (refused (refusal_of 8 w.pc) w) (does e w.halted R w.memory)

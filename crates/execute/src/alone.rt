@@ -3,10 +3,10 @@ ghost use Rattle.std.specs.Prelude.{◌≡◌, true};
 ghost use Rattle.opcode.specs.Opcodes.{form_of};
 ghost use Rattle.opcode.specs.declared.Form.TheVariants as F;
 ghost use Rattle.instruction.specs.declared.Instruction.TheVariants.{Ecall};
-ghost use Rattle.words.specs.Words.{apartOf, decodedOf};
+ghost use Rattle.words.specs.Words.{apart_of, decoded_of};
 ghost use Rattle.state.specs.Registers.{registers, Becomes};
 ghost use Rattle.pending.specs.declared.Checks.TheVariants.{Nothing};
-ghost use Rattle.execute.specs.Modes.{settleSources};
+ghost use Rattle.execute.specs.Modes.{settle_sources};
 ghost use Rattle.execute.specs.declared.Went.TheVariants as W;
 ghost use Rattle.execute.specs.Starts.{obeyed, doing, Always};
 
@@ -17,7 +17,7 @@ use refusal::Refusal;
 use state::registers;
 
 fn settle_all(mode: Mode, regs: &mut [u64; 16], accumulated: &mut [bool; 16])
-    ensures { Becomes (settleSources mode Ecall) regs.old accumulated.old regs.new accumulated.new }
+    ensures { Becomes (settle_sources mode Ecall) regs.old accumulated.old regs.new accumulated.new }
 {
     match mode {
         Mode::Deferred => registers::normalise_all(regs, accumulated),
@@ -64,7 +64,7 @@ pub(crate) fn obey(
     bounds: &mut [u8; 16],
 ) -> Advance
     requires { form_of op ≡ F.Alone }
-    ensures { Always (obeyed start (decodedOf (apartOf op word)) (registers regs.old accumulated.old bounds.old)) result (registers regs.new accumulated.new bounds.new) }
+    ensures { Always (obeyed start (decoded_of (apart_of op word)) (registers regs.old accumulated.old bounds.old)) result (registers regs.new accumulated.new bounds.new) }
 {
     if forms::unused(Form::Alone, word) != 0 {
         return refuse(start, Refusal::UnusedBits { word });

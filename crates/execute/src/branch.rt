@@ -2,9 +2,9 @@
 ghost use Rattle.std.specs.Prelude.{◌≡◌, cond};
 ghost use Rattle.opcode.specs.Opcodes.{form_of};
 ghost use Rattle.opcode.specs.declared.Form.TheVariants as F;
-ghost use Rattle.instruction.specs.Operands.{instructionOf};
-ghost use Rattle.instruction.specs.Kinds.{branchKindOf};
-ghost use Rattle.words.specs.Words.{apartOf, decodedOf};
+ghost use Rattle.instruction.specs.Operands.{instruction_of};
+ghost use Rattle.instruction.specs.Kinds.{branch_kind_of};
+ghost use Rattle.words.specs.Words.{apart_of, decoded_of};
 ghost use Rattle.state.specs.Held.{value_of};
 ghost use Rattle.state.specs.Registers.{registers, held_at};
 ghost use Rattle.effect.specs.Operations.{plus64, taken};
@@ -25,7 +25,7 @@ fn either(t: bool, x: u64, y: u64) -> u64
 
 // Where the run goes on.
 fn next_pc<'a>(pc: u64, p: Parts, regs: &'a [u64; 16], accumulated: &'a [bool; 16]) -> u64
-    ensures { result ≡ plus64 pc (cond (taken (branchKindOf p.op) (value_of (held_at regs.now accumulated.now p.a)) (value_of (held_at regs.now accumulated.now p.b))) p.imm 4) }
+    ensures { result ≡ plus64 pc (cond (taken (branch_kind_of p.op) (value_of (held_at regs.now accumulated.now p.a)) (value_of (held_at regs.now accumulated.now p.b))) p.imm 4) }
 {
     let op = p.op;
     let s = registers::value_at(regs, accumulated, p.a);
@@ -41,7 +41,7 @@ fn executed(
     bounds: &mut [u8; 16],
 ) -> Advance
     requires { form_of p.op ≡ F.B }
-    ensures { Always (doing start (instructionOf p) (registers regs.old accumulated.old bounds.old)) result (registers regs.new accumulated.new bounds.new) }
+    ensures { Always (doing start (instruction_of p) (registers regs.old accumulated.old bounds.old)) result (registers regs.new accumulated.new bounds.new) }
 {
     let choices = start.choices;
     let mode = choices.mode;
@@ -59,7 +59,7 @@ pub(crate) fn obey(
     bounds: &mut [u8; 16],
 ) -> Advance
     requires { form_of op ≡ F.B }
-    ensures { Always (obeyed start (decodedOf (apartOf op word)) (registers regs.old accumulated.old bounds.old)) result (registers regs.new accumulated.new bounds.new) }
+    ensures { Always (obeyed start (decoded_of (apart_of op word)) (registers regs.old accumulated.old bounds.old)) result (registers regs.new accumulated.new bounds.new) }
 {
     let p = parts(op, word, forms::immediate(Form::B, word));
     executed(start, p, regs, accumulated, bounds)

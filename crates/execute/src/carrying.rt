@@ -5,7 +5,7 @@ ghost use Rattle.state.specs.Held.{Whole};
 ghost use Rattle.state.specs.Registers.{registers, put, Becomes};
 ghost use Rattle.effect.specs.Operations.{plus64};
 ghost use Rattle.pending.specs.declared.Checks.TheVariants.{Nothing};
-ghost use Rattle.execute.specs.Starts.{settleTwo};
+ghost use Rattle.execute.specs.Starts.{settle_two};
 ghost use Rattle.execute.specs.declared.Went.TheVariants as W;
 
 use crate::{Advance, Mode, Start, Went};
@@ -59,7 +59,7 @@ pub(crate) fn settle_two(
     regs: &mut [u64; 16],
     accumulated: &mut [bool; 16],
 )
-    ensures { Becomes (settleTwo mode first second) regs.old accumulated.old regs.new accumulated.new }
+    ensures { Becomes (settle_two mode first second) regs.old accumulated.old regs.new accumulated.new }
 {
     match mode {
         Mode::Deferred => {
@@ -86,7 +86,7 @@ pub(crate) fn put(
     accumulated: &mut [bool; 16],
     bounds: &mut [u8; 16],
 )
-    ensures { (registers regs.new accumulated.new bounds.new) ≡ put (settleTwo mode first second (registers regs.old accumulated.old bounds.old)) w.rd (Whole w.value) w.bound }
+    ensures { (registers regs.new accumulated.new bounds.new) ≡ put (settle_two mode first second (registers regs.old accumulated.old bounds.old)) w.rd (Whole w.value) w.bound }
 {
     settle_two(mode, first, second, regs, accumulated);
     registers::write(regs, accumulated, bounds, w.rd, w.value, false, w.bound);

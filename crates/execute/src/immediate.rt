@@ -2,15 +2,15 @@
 ghost use Rattle.std.specs.Prelude.{◌≡◌};
 ghost use Rattle.opcode.specs.Opcodes.{form_of};
 ghost use Rattle.opcode.specs.declared.Form.TheVariants as F;
-ghost use Rattle.instruction.specs.Operands.{instructionOf};
-ghost use Rattle.words.specs.Words.{apartOf, decodedOf};
+ghost use Rattle.instruction.specs.Operands.{instruction_of};
+ghost use Rattle.words.specs.Words.{apart_of, decoded_of};
 ghost use Rattle.state.specs.Registers.{registers};
-ghost use Rattle.effect.specs.Notes.{documentNotes};
+ghost use Rattle.effect.specs.Notes.{document_notes};
 ghost use Rattle.effect.specs.Effects.{seen};
-ghost use Rattle.effect.specs.Tables.{turnOutcome, one_of};
+ghost use Rattle.effect.specs.Tables.{turn_outcome, one_of};
 ghost use Rattle.deferred.specs.Limbs.{limbed};
-ghost use Rattle.execute.specs.Modes.{limbsIn};
-ghost use Rattle.execute.specs.Starts.{advanced, obeyed, doing, onWhole, carried, Always, settleTwo};
+ghost use Rattle.execute.specs.Modes.{limbs_in};
+ghost use Rattle.execute.specs.Starts.{advanced, obeyed, doing, on_whole, carried, Always, settle_two};
 
 use crate::carrying::{Write, onward, parts, put, to};
 use crate::{Advance, Mode, Start, refuse};
@@ -29,7 +29,7 @@ fn carry(
     accumulated: &mut [bool; 16],
     bounds: &mut [u8; 16],
 ) -> Advance
-    ensures { Always (carried start (turnOutcome p.a turn) (registers regs.old accumulated.old bounds.old) (settleTwo start.choices.mode p.b 0 (registers regs.old accumulated.old bounds.old))) result (registers regs.new accumulated.new bounds.new) }
+    ensures { Always (carried start (turn_outcome p.a turn) (registers regs.old accumulated.old bounds.old) (settle_two start.choices.mode p.b 0 (registers regs.old accumulated.old bounds.old))) result (registers regs.new accumulated.new bounds.new) }
 {
     match turn {
         Turn::Writes { next, bound, value } => {
@@ -72,7 +72,7 @@ fn limbs(
     bounds: &mut [u8; 16],
 ) -> bool
     requires { form_of p.op ≡ F.I }
-    ensures { limbed result (registers regs.new accumulated.new bounds.new) ≡ limbsIn mode documentNotes (instructionOf p) (registers regs.old accumulated.old bounds.old) }
+    ensures { limbed result (registers regs.new accumulated.new bounds.new) ≡ limbs_in mode document_notes (instruction_of p) (registers regs.old accumulated.old bounds.old) }
 {
     match mode {
         Mode::Deferred => deferred::limbs_of_immediate(p, regs, accumulated, bounds),
@@ -89,7 +89,7 @@ fn on_whole(
     m: &[u8],
 ) -> Advance
     requires { form_of p.op ≡ F.I }
-    ensures { advanced result (registers regs.new accumulated.new bounds.new) m.now ≡ onWhole start (instructionOf p) (registers regs.old accumulated.old bounds.old) m.now }
+    ensures { advanced result (registers regs.new accumulated.new bounds.new) m.now ≡ on_whole start (instruction_of p) (registers regs.old accumulated.old bounds.old) m.now }
 {
     let op = p.op;
     let turn = immediate::decide(op, read(start.pc, p, regs, accumulated, bounds), m);
@@ -105,7 +105,7 @@ fn executed(
     m: &[u8],
 ) -> Advance
     requires { form_of p.op ≡ F.I }
-    ensures { advanced result (registers regs.new accumulated.new bounds.new) m.now ≡ doing start (instructionOf p) (registers regs.old accumulated.old bounds.old) m.now }
+    ensures { advanced result (registers regs.new accumulated.new bounds.new) m.now ≡ doing start (instruction_of p) (registers regs.old accumulated.old bounds.old) m.now }
 {
     let choices = start.choices;
     let mode = choices.mode;
@@ -125,7 +125,7 @@ pub(crate) fn obey(
     m: &[u8],
 ) -> Advance
     requires { form_of op ≡ F.I }
-    ensures { advanced result (registers regs.new accumulated.new bounds.new) m.now ≡ obeyed start (decodedOf (apartOf op word)) (registers regs.old accumulated.old bounds.old) m.now }
+    ensures { advanced result (registers regs.new accumulated.new bounds.new) m.now ≡ obeyed start (decoded_of (apart_of op word)) (registers regs.old accumulated.old bounds.old) m.now }
 {
     let p = parts(op, word, forms::immediate(Form::I, word));
     executed(start, p, regs, accumulated, bounds, m)
@@ -140,7 +140,7 @@ fn shifted(
     bounds: &mut [u8; 16],
 ) -> Advance
     requires { form_of p.op ≡ F.Shift }
-    ensures { Always (doing start (instructionOf p) (registers regs.old accumulated.old bounds.old)) result (registers regs.new accumulated.new bounds.new) }
+    ensures { Always (doing start (instruction_of p) (registers regs.old accumulated.old bounds.old)) result (registers regs.new accumulated.new bounds.new) }
 {
     let op = p.op;
     let turn = immediate::shift(op, read(start.pc, p, regs, accumulated, bounds));
@@ -156,7 +156,7 @@ pub(crate) fn obey_shift(
     bounds: &mut [u8; 16],
 ) -> Advance
     requires { form_of op ≡ F.Shift }
-    ensures { Always (obeyed start (decodedOf (apartOf op word)) (registers regs.old accumulated.old bounds.old)) result (registers regs.new accumulated.new bounds.new) }
+    ensures { Always (obeyed start (decoded_of (apart_of op word)) (registers regs.old accumulated.old bounds.old)) result (registers regs.new accumulated.new bounds.new) }
 {
     if forms::unused(Form::Shift, word) != 0 {
         return refuse(start, Refusal::UnusedBits { word });

@@ -2,7 +2,7 @@
 ghost use Rattle.std.specs.Prelude.{◌≡◌};
 ghost use Rattle.opcode.specs.Opcodes.{form_of};
 ghost use Rattle.opcode.specs.declared.Form.TheVariants as F;
-ghost use Rattle.words.specs.Words.{apartOf, decodedOf};
+ghost use Rattle.words.specs.Words.{apart_of, decoded_of};
 ghost use Rattle.state.specs.Registers.{registers};
 ghost use Rattle.execute.specs.Starts.{obeyed, Always};
 
@@ -20,7 +20,7 @@ pub(crate) fn obey(
     bounds: &mut [u8; 16],
 ) -> Advance
     requires { form_of op ≡ F.J }
-    ensures { Always (obeyed start (decodedOf (apartOf op word)) (registers regs.old accumulated.old bounds.old)) result (registers regs.new accumulated.new bounds.new) }
+    ensures { Always (obeyed start (decoded_of (apart_of op word)) (registers regs.old accumulated.old bounds.old)) result (registers regs.new accumulated.new bounds.new) }
 {
     let p = parts(op, word, forms::immediate(Form::J, word));
     let link = value::address::plus(start.pc, 4);

@@ -2,17 +2,17 @@
 ghost use Rattle.std.specs.Prelude.{◌≡◌};
 ghost use Rattle.opcode.specs.Opcodes.{form_of};
 ghost use Rattle.opcode.specs.declared.Form.TheVariants as F;
-ghost use Rattle.instruction.specs.Operands.{instructionOf};
-ghost use Rattle.words.specs.Words.{apartOf, decodedOf};
+ghost use Rattle.instruction.specs.Operands.{instruction_of};
+ghost use Rattle.words.specs.Words.{apart_of, decoded_of};
 ghost use Rattle.state.specs.Registers.{registers};
-ghost use Rattle.effect.specs.Notes.{documentNotes};
+ghost use Rattle.effect.specs.Notes.{document_notes};
 ghost use Rattle.effect.specs.Operations.{plus64};
 ghost use Rattle.effect.specs.Effects.{seen};
-ghost use Rattle.effect.specs.Tables.{deedOutcome, twoOf};
+ghost use Rattle.effect.specs.Tables.{deed_outcome, two_of};
 ghost use Rattle.deferred.specs.Limbs.{limbed};
 ghost use Rattle.pending.specs.declared.Checks.TheVariants.{One};
-ghost use Rattle.execute.specs.Modes.{limbsIn};
-ghost use Rattle.execute.specs.Starts.{obeyed, doing, onWhole, carried, Always, settleTwo};
+ghost use Rattle.execute.specs.Modes.{limbs_in};
+ghost use Rattle.execute.specs.Starts.{obeyed, doing, on_whole, carried, Always, settle_two};
 ghost use Rattle.execute.specs.declared.Went.TheVariants as W;
 
 use crate::carrying::{Write, onward, parts, put, settle_two};
@@ -43,7 +43,7 @@ fn carry(
     accumulated: &mut [bool; 16],
     bounds: &mut [u8; 16],
 ) -> Advance
-    ensures { Always (carried start (deedOutcome p.a start.pc deed) (registers regs.old accumulated.old bounds.old) (settleTwo start.choices.mode p.b p.c (registers regs.old accumulated.old bounds.old))) result (registers regs.new accumulated.new bounds.new) }
+    ensures { Always (carried start (deed_outcome p.a start.pc deed) (registers regs.old accumulated.old bounds.old) (settle_two start.choices.mode p.b p.c (registers regs.old accumulated.old bounds.old))) result (registers regs.new accumulated.new bounds.new) }
 {
     let choices = start.choices;
     let mode = choices.mode;
@@ -85,7 +85,7 @@ fn read<'a>(
     accumulated: &'a [bool; 16],
     bounds: &'a [u8; 16],
 ) -> Operands
-    ensures { result ≡ twoOf p.a p.b p.c (seen pc (registers regs.now accumulated.now bounds.now)) }
+    ensures { result ≡ two_of p.a p.b p.c (seen pc (registers regs.now accumulated.now bounds.now)) }
 {
     Operands {
         pc,
@@ -105,7 +105,7 @@ fn limbs(
     bounds: &mut [u8; 16],
 ) -> bool
     requires { form_of p.op ≡ F.R }
-    ensures { limbed result (registers regs.new accumulated.new bounds.new) ≡ limbsIn mode documentNotes (instructionOf p) (registers regs.old accumulated.old bounds.old) }
+    ensures { limbed result (registers regs.new accumulated.new bounds.new) ≡ limbs_in mode document_notes (instruction_of p) (registers regs.old accumulated.old bounds.old) }
 {
     match mode {
         Mode::Deferred => deferred::limbs_of_registers(p, regs, accumulated, bounds),
@@ -121,7 +121,7 @@ fn on_whole(
     bounds: &mut [u8; 16],
 ) -> Advance
     requires { form_of p.op ≡ F.R }
-    ensures { Always (onWhole start (instructionOf p) (registers regs.old accumulated.old bounds.old)) result (registers regs.new accumulated.new bounds.new) }
+    ensures { Always (on_whole start (instruction_of p) (registers regs.old accumulated.old bounds.old)) result (registers regs.new accumulated.new bounds.new) }
 {
     let op = p.op;
     let deed = decide(op, read(start.pc, p, regs, accumulated, bounds));
@@ -136,7 +136,7 @@ fn executed(
     bounds: &mut [u8; 16],
 ) -> Advance
     requires { form_of p.op ≡ F.R }
-    ensures { Always (doing start (instructionOf p) (registers regs.old accumulated.old bounds.old)) result (registers regs.new accumulated.new bounds.new) }
+    ensures { Always (doing start (instruction_of p) (registers regs.old accumulated.old bounds.old)) result (registers regs.new accumulated.new bounds.new) }
 {
     let choices = start.choices;
     let mode = choices.mode;
@@ -155,7 +155,7 @@ pub(crate) fn obey(
     bounds: &mut [u8; 16],
 ) -> Advance
     requires { form_of op ≡ F.R }
-    ensures { Always (obeyed start (decodedOf (apartOf op word)) (registers regs.old accumulated.old bounds.old)) result (registers regs.new accumulated.new bounds.new) }
+    ensures { Always (obeyed start (decoded_of (apart_of op word)) (registers regs.old accumulated.old bounds.old)) result (registers regs.new accumulated.new bounds.new) }
 {
     if forms::unused(Form::R, word) != 0 {
         return refuse(start, Refusal::UnusedBits { word });

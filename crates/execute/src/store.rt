@@ -1,14 +1,14 @@
 // The stores.
 ghost use Rattle.std.specs.Prelude.{◌≡◌, length};
-ghost use Rattle.memory.specs.Memory.{store_of, memoryAfter};
+ghost use Rattle.memory.specs.Memory.{store_of, memory_after};
 ghost use Rattle.opcode.specs.Opcodes.{form_of};
 ghost use Rattle.opcode.specs.declared.Form.TheVariants as F;
-ghost use Rattle.instruction.specs.Operands.{instructionOf};
-ghost use Rattle.instruction.specs.Kinds.{storeKindOf};
-ghost use Rattle.words.specs.Words.{apartOf, decodedOf};
+ghost use Rattle.instruction.specs.Operands.{instruction_of};
+ghost use Rattle.instruction.specs.Kinds.{store_kind_of};
+ghost use Rattle.words.specs.Words.{apart_of, decoded_of};
 ghost use Rattle.state.specs.Held.{value_of};
 ghost use Rattle.state.specs.Registers.{registers, held_at};
-ghost use Rattle.effect.specs.Operations.{plus64, storeSize};
+ghost use Rattle.effect.specs.Operations.{plus64, store_size};
 ghost use Rattle.execute.specs.Starts.{advanced, obeyed, doing};
 
 use crate::carrying::{onward, parts, settle_two};
@@ -21,7 +21,7 @@ use state::registers;
 
 // The bytes are stored, or the store is refused.
 fn stored<'a>(p: Parts, regs: &'a [u64; 16], accumulated: &'a [bool; 16], m: &mut [u8]) -> Stored
-    ensures { (result ≡ store_of (storeSize (storeKindOf p.op)) (length m.old) (plus64 (value_of (held_at regs.now accumulated.now p.a)) p.imm)) × (m.new ≡ memoryAfter (storeSize (storeKindOf p.op)) m.old (plus64 (value_of (held_at regs.now accumulated.now p.a)) p.imm) (value_of (held_at regs.now accumulated.now p.b))) }
+    ensures { (result ≡ store_of (store_size (store_kind_of p.op)) (length m.old) (plus64 (value_of (held_at regs.now accumulated.now p.a)) p.imm)) × (m.new ≡ memory_after (store_size (store_kind_of p.op)) m.old (plus64 (value_of (held_at regs.now accumulated.now p.a)) p.imm) (value_of (held_at regs.now accumulated.now p.b))) }
 {
     let op = p.op;
     let s = registers::value_at(regs, accumulated, p.a);
@@ -38,7 +38,7 @@ fn executed(
     m: &mut [u8],
 ) -> Advance
     requires { form_of p.op ≡ F.S }
-    ensures { advanced result (registers regs.new accumulated.new bounds.new) m.new ≡ doing start (instructionOf p) (registers regs.old accumulated.old bounds.old) m.old }
+    ensures { advanced result (registers regs.new accumulated.new bounds.new) m.new ≡ doing start (instruction_of p) (registers regs.old accumulated.old bounds.old) m.old }
 {
     match stored(p, regs, accumulated, m) {
         Stored::Done => {
@@ -61,7 +61,7 @@ pub(crate) fn obey(
     m: &mut [u8],
 ) -> Advance
     requires { form_of op ≡ F.S }
-    ensures { advanced result (registers regs.new accumulated.new bounds.new) m.new ≡ obeyed start (decodedOf (apartOf op word)) (registers regs.old accumulated.old bounds.old) m.old }
+    ensures { advanced result (registers regs.new accumulated.new bounds.new) m.new ≡ obeyed start (decoded_of (apart_of op word)) (registers regs.old accumulated.old bounds.old) m.old }
 {
     let p = parts(op, word, forms::immediate(Form::S, word));
     executed(start, p, regs, accumulated, bounds, m)

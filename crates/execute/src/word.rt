@@ -2,10 +2,10 @@
 // out. Every large function is called from one place, so that the compiler makes one loop of a run.
 ghost use Rattle.std.specs.Prelude.{◌≡◌};
 ghost use Rattle.encoding.specs.Fields.{field};
-ghost use Rattle.opcode.specs.Opcodes.{opcodeNumber, opcodeIn};
-ghost use Rattle.words.specs.Words.{apartOf, decodedOf, decodeIn};
+ghost use Rattle.opcode.specs.Opcodes.{opcode_number, opcode_in};
+ghost use Rattle.words.specs.Words.{apart_of, decoded_of, decode_in};
 ghost use Rattle.state.specs.Registers.{registers};
-ghost use Rattle.execute.specs.Rules.{rulesOf};
+ghost use Rattle.execute.specs.Rules.{rules_of};
 ghost use Rattle.execute.specs.Starts.{advanced, obeyed};
 
 use crate::{Advance, Start, alone, branch, immediate, jump, refuse, registers, store};
@@ -21,7 +21,7 @@ fn by_form(
     bounds: &mut [u8; 16],
     m: &mut [u8],
 ) -> Advance
-    ensures { advanced result (registers regs.new accumulated.new bounds.new) m.new ≡ obeyed start (decodedOf (apartOf op word)) (registers regs.old accumulated.old bounds.old) m.old }
+    ensures { advanced result (registers regs.new accumulated.new bounds.new) m.new ≡ obeyed start (decoded_of (apart_of op word)) (registers regs.old accumulated.old bounds.old) m.old }
 {
     match forms::form_of(op) {
         Form::R => registers::obey(start, op, word, regs, accumulated, bounds),
@@ -35,7 +35,7 @@ fn by_form(
 }
 
 fn opcode_at(word: u32) -> Found
-    ensures { result ≡ opcodeIn opcodeNumber (field 0 7 word) }
+    ensures { result ≡ opcode_in opcode_number (field 0 7 word) }
 {
     opcode::opcode_of(encoding::extract_opcode(word) as u8)
 }
@@ -48,7 +48,7 @@ pub fn obey(
     bounds: &mut [u8; 16],
     m: &mut [u8],
 ) -> Advance
-    ensures { advanced result (registers regs.new accumulated.new bounds.new) m.new ≡ obeyed start (decodeIn (rulesOf start.choices).number word) (registers regs.old accumulated.old bounds.old) m.old }
+    ensures { advanced result (registers regs.new accumulated.new bounds.new) m.new ≡ obeyed start (decode_in (rules_of start.choices).number word) (registers regs.old accumulated.old bounds.old) m.old }
 {
     match opcode_at(word) {
         Found::Op(op) => by_form(start, op, word, regs, accumulated, bounds, m),

@@ -1,7 +1,7 @@
 -- Inner: decoder and encoder over numbers alone, for the comparison.
 use Rattle.std.specs.Prelude.{ℕ, ◌+◌, ◌-◌, ◌*◌, ◌^◌}
 use Rattle.refusal.specs.Stops.{number_of}
-use Rattle.opcode.specs.Opcodes.{opcodeNumber}
+use Rattle.opcode.specs.Opcodes.{opcode_number}
 use Rattle.opcode.specs.declared.Opcode.TheVariants as O
 use Rattle.opcode.specs.declared.Found.{Found}
 use Rattle.opcode.specs.declared.Found.TheVariants.{Op, Nothing}
@@ -13,21 +13,21 @@ use Rattle.words.specs.declared.Decoded.TheVariants as D
 use Rattle.words.specs.declared.Encoded.{Encoded}
 use Rattle.words.specs.declared.Encoded.TheVariants as E
 use Rattle.exports.specs.declared.triple.Triple.{Triple}
-use Rattle.exports.specs.Triples.{triple, refusalTriple}
+use Rattle.exports.specs.Triples.{triple, refusal_triple}
 
 -- the opcode's number and the registers at bits 7, 11 and 15, a byte each
-abbrev pub packedOf : Parts → ℕ
-packedOf p = opcodeNumber p.op + 2 ^ 8 * p.a + 2 ^ 16 * p.b + 2 ^ 24 * p.c
+abbrev pub packed_of : Parts → ℕ
+packed_of p = opcode_number p.op + 2 ^ 8 * p.a + 2 ^ 16 * p.b + 2 ^ 24 * p.c
 
 -- 0, the packed parts, the immediate; or the refusal
-abbrev pub decodedTriple : Decoded → Triple
-decodedTriple (D.Instruction i) = triple 0 (packedOf (parts_of i)) (parts_of i).imm
-decodedTriple (D.Refused r) = refusalTriple r
+abbrev pub decoded_triple : Decoded → Triple
+decoded_triple (D.Instruction i) = triple 0 (packed_of (parts_of i)) (parts_of i).imm
+decoded_triple (D.Refused r) = refusal_triple r
 
 -- a word, or 2^64 - 1 less the refusal's number
-abbrev pub encodedNumber : Encoded → ℕ
-encodedNumber (E.Word w) = w
-encodedNumber (E.Refused r) = 2 ^ 64 - 1 - number_of r
+abbrev pub encoded_number : Encoded → ℕ
+encoded_number (E.Word w) = w
+encoded_number (E.Refused r) = 2 ^ 64 - 1 - number_of r
 
 -- the instruction of an opcode's number; for a number that is none's, one that the encoder refuses
 unfoldable pub given_of : Found → ℕ → ℕ → ℕ → ℕ → Instruction

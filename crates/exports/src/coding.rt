@@ -1,9 +1,9 @@
 // Decoder and encoder of instructions: `words`.
 ghost use Rattle.std.specs.Prelude.{◌≡◌};
-ghost use Rattle.opcode.specs.Opcodes.{opcodeNumber, opcodeIn};
-ghost use Rattle.words.specs.Words.{decodeIn, encodeIn};
+ghost use Rattle.opcode.specs.Opcodes.{opcode_number, opcode_in};
+ghost use Rattle.words.specs.Words.{decode_in, encode_in};
 ghost use Rattle.exports.specs.Triples.{tripled};
-ghost use Rattle.exports.specs.Coding.{packedOf, decodedTriple, encodedNumber, given_of};
+ghost use Rattle.exports.specs.Coding.{packed_of, decoded_triple, encoded_number, given_of};
 
 use crate::triple::{Triple, refused, write_triple};
 use instruction::{Instruction, Parts};
@@ -12,7 +12,7 @@ use refusal::number_of;
 use words::{Decoded, Encoded};
 
 fn packed(p: Parts) -> u64
-    ensures { result ≡ packedOf p }
+    ensures { result ≡ packed_of p }
 {
     let op = p.op;
     opcode::opcode_number(op) as u64
@@ -22,7 +22,7 @@ fn packed(p: Parts) -> u64
 }
 
 fn decoded(d: Decoded) -> Triple
-    ensures { result ≡ decodedTriple d }
+    ensures { result ≡ decoded_triple d }
 {
     match d {
         Decoded::Instruction(i) => {
@@ -39,13 +39,13 @@ fn decoded(d: Decoded) -> Triple
 
 #[unsafe(no_mangle)]
 pub extern "C" fn oracle_decode(answer: &mut [u8], word: u32)
-    ensures { answer.new ≡ tripled (decodedTriple (decodeIn opcodeNumber word)) answer.old }
+    ensures { answer.new ≡ tripled (decoded_triple (decode_in opcode_number word)) answer.old }
 {
     write_triple(answer, decoded(words::decode(word)));
 }
 
 fn encoded(e: Encoded) -> u64
-    ensures { result ≡ encodedNumber e }
+    ensures { result ≡ encoded_number e }
 {
     match e {
         Encoded::Word(w) => w as u64,
@@ -54,7 +54,7 @@ fn encoded(e: Encoded) -> u64
 }
 
 pub fn given(opcode: u8, a: u8, b: u8, c: u8, imm: u64) -> Instruction
-    ensures { result ≡ given_of (opcodeIn opcodeNumber opcode) a b c imm }
+    ensures { result ≡ given_of (opcode_in opcode_number opcode) a b c imm }
 {
     match opcode::opcode_of(opcode) {
         Found::Op(op) => instruction::instruction_of(Parts { op, a, b, c, imm }),
@@ -68,7 +68,7 @@ pub fn given(opcode: u8, a: u8, b: u8, c: u8, imm: u64) -> Instruction
 
 #[unsafe(no_mangle)]
 pub extern "C" fn oracle_encode(opcode: u8, a: u8, b: u8, c: u8, imm: u64) -> u64
-    ensures { result ≡ encodedNumber (encodeIn opcodeNumber (given_of (opcodeIn opcodeNumber opcode) a b c imm)) }
+    ensures { result ≡ encoded_number (encode_in opcode_number (given_of (opcode_in opcode_number opcode) a b c imm)) }
 {
     encoded(words::encode(given(opcode, a, b, c, imm)))
 }

@@ -1,8 +1,8 @@
 // Limb operations, over the bytes of a state: `normalize`. Bytes that are no state's are refused (9).
 ghost use Rattle.std.specs.Prelude.{◌≡◌};
-ghost use Rattle.normalize.specs.Normalizing.{wouldOverflow};
+ghost use Rattle.normalize.specs.Normalizing.{would_overflow};
 ghost use Rattle.exports.specs.Triples.{tripled};
-ghost use Rattle.exports.specs.Limbs.{normalizedBy, limbCall, normalizingCode, beforeTriple, afterTriple, carryTriple, normalizing};
+ghost use Rattle.exports.specs.Limbs.{normalized_by, limb_call, normalizing_code, before_triple, after_triple, carry_triple, normalizing};
 
 use crate::triple::{Triple, write_triple};
 use layout::laid::well_laid;
@@ -14,7 +14,7 @@ use refusal::{Refusal, number_of};
 use state::State;
 
 fn code_of(n: Normalizing) -> u64
-    ensures { result ≡ normalizingCode n }
+    ensures { result ≡ normalizing_code n }
 {
     match n {
         Normalizing::Unneeded => 64,
@@ -24,7 +24,7 @@ fn code_of(n: Normalizing) -> u64
 }
 
 fn before_of(n: Normalizing, r: NormalizationResult) -> Triple
-    ensures { result ≡ beforeTriple n r }
+    ensures { result ≡ before_triple n r }
 {
     let limbs = r.accumulated;
     Triple {
@@ -35,7 +35,7 @@ fn before_of(n: Normalizing, r: NormalizationResult) -> Triple
 }
 
 fn after_of(r: NormalizationResult) -> Triple
-    ensures { result ≡ afterTriple r }
+    ensures { result ≡ after_triple r }
 {
     let limbs = r.normalized;
     Triple {
@@ -46,7 +46,7 @@ fn after_of(r: NormalizationResult) -> Triple
 }
 
 fn carries_of(r: NormalizationResult) -> Triple
-    ensures { result ≡ carryTriple r }
+    ensures { result ≡ carry_triple r }
 {
     let carries = r.carries;
     Triple {
@@ -63,7 +63,7 @@ fn give(
     answer: Normalizing,
     r: NormalizationResult,
 )
-    ensures { (before.new ≡ tripled (beforeTriple answer r) before.old) × (after.new ≡ tripled (afterTriple r) after.old) × (carries.new ≡ tripled (carryTriple r) carries.old) }
+    ensures { (before.new ≡ tripled (before_triple answer r) before.old) × (after.new ≡ tripled (after_triple r) after.old) × (carries.new ≡ tripled (carry_triple r) carries.old) }
 {
     write_triple(before, before_of(answer, r));
     write_triple(after, after_of(r));
@@ -71,7 +71,7 @@ fn give(
 }
 
 fn normalized_by(which: u64, s: State, reg: u8, low: u64, high: u64) -> Normalized
-    ensures { result ≡ normalizedBy which s reg low high }
+    ensures { result ≡ normalized_by which s reg low high }
 {
     if which == 0 {
         return normalize::normalize_register(s, reg);
@@ -93,7 +93,7 @@ pub extern "C" fn oracle_normalize(
     low: u64,
     high: u64,
 )
-    ensures { limbCall state.new before.new after.new carries.new ≡ normalizing which reg low high (limbCall state.old before.old after.old carries.old) }
+    ensures { limb_call state.new before.new after.new carries.new ≡ normalizing which reg low high (limb_call state.old before.old after.old carries.old) }
 {
     if !well_laid(state) {
         let nothing = NormalizationResult {
@@ -115,7 +115,7 @@ pub extern "C" fn oracle_normalize(
 
 #[unsafe(no_mangle)]
 pub extern "C" fn oracle_would_overflow(low: u64, high: u64) -> bool
-    ensures { result ≡ wouldOverflow low high }
+    ensures { result ≡ would_overflow low high }
 {
     normalize::would_overflow(low, high)
 }

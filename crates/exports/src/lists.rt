@@ -1,15 +1,15 @@
 // Pending checks, in three lent lists: `pending`.
 ghost use Rattle.std.specs.Prelude.{◌≡◌};
-ghost use Rattle.pending.specs.Pending.{lists, appendAnswer, appendLists, emptyAnswer, emptyLists, entry_at};
+ghost use Rattle.pending.specs.Pending.{lists, append_answer, append_lists, empty_answer, empty_lists, entry_at};
 ghost use Rattle.exports.specs.Triples.{tripled};
-ghost use Rattle.exports.specs.Lists.{countedTriple, entryCode, entryIn};
+ghost use Rattle.exports.specs.Lists.{counted_triple, entry_code, entry_in};
 
 use crate::triple::{Triple, refused, write_triple};
 use pending::{Counted, Entry};
 use refusal::number_of;
 
 fn counted(c: Counted) -> Triple
-    ensures { result ≡ countedTriple c }
+    ensures { result ≡ counted_triple c }
 {
     match c {
         Counted::Count(n) => Triple {
@@ -32,7 +32,7 @@ pub extern "C" fn oracle_append(
     bound: u8,
     pc: u64,
 )
-    ensures { (answer.new ≡ tripled (countedTriple (appendAnswer value bound pc (lists count values.old bounds.old pcs.old))) answer.old) × (lists (appendLists value bound pc (lists count values.old bounds.old pcs.old)).count values.new bounds.new pcs.new ≡ appendLists value bound pc (lists count values.old bounds.old pcs.old)) }
+    ensures { (answer.new ≡ tripled (counted_triple (append_answer value bound pc (lists count values.old bounds.old pcs.old))) answer.old) × (lists (append_lists value bound pc (lists count values.old bounds.old pcs.old)).count values.new bounds.new pcs.new ≡ append_lists value bound pc (lists count values.old bounds.old pcs.old)) }
 {
     let c = pending::append(values, bounds, pcs, count, value, bound, pc);
     write_triple(answer, counted(c));
@@ -46,14 +46,14 @@ pub extern "C" fn oracle_empty(
     pcs: &mut [u64],
     count: usize,
 )
-    ensures { (answer.new ≡ tripled (countedTriple (emptyAnswer (lists count values.old bounds.old pcs.old))) answer.old) × (lists (emptyLists (lists count values.old bounds.old pcs.old)).count values.new bounds.new pcs.new ≡ emptyLists (lists count values.old bounds.old pcs.old)) }
+    ensures { (answer.new ≡ tripled (counted_triple (empty_answer (lists count values.old bounds.old pcs.old))) answer.old) × (lists (empty_lists (lists count values.old bounds.old pcs.old)).count values.new bounds.new pcs.new ≡ empty_lists (lists count values.old bounds.old pcs.old)) }
 {
     let c = pending::empty(values, bounds, pcs, count);
     write_triple(answer, counted(c));
 }
 
 fn give_entry(answer: &mut [u8], e: Entry) -> u64
-    ensures { (result ≡ entryCode e) × (answer.new ≡ entryIn e answer.old) }
+    ensures { (result ≡ entry_code e) × (answer.new ≡ entry_in e answer.old) }
 {
     match e {
         Entry::Check { value, bound, pc } => {
@@ -79,7 +79,7 @@ pub extern "C" fn oracle_read<'a>(
     count: usize,
     at: usize,
 ) -> u64
-    ensures { (result ≡ entryCode (entry_at at (lists count values.now bounds.now pcs.now))) × (answer.new ≡ entryIn (entry_at at (lists count values.now bounds.now pcs.now)) answer.old) }
+    ensures { (result ≡ entry_code (entry_at at (lists count values.now bounds.now pcs.now))) × (answer.new ≡ entry_in (entry_at at (lists count values.now bounds.now pcs.now)) answer.old) }
 {
     give_entry(answer, pending::read(values, bounds, pcs, count, at))
 }

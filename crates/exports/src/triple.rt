@@ -1,6 +1,6 @@
 // Three numbers in 24 bytes, in which the exports give what is no number.
 ghost use Rattle.std.specs.Prelude.{◌≡◌};
-ghost use Rattle.exports.specs.Triples.{tripled, refusalTriple};
+ghost use Rattle.exports.specs.Triples.{tripled, refusal_triple};
 
 use memory::bytes::put_number;
 use refusal::Refusal;
@@ -27,7 +27,7 @@ pub fn write_triple(bytes: &mut [u8], t: Triple)
 }
 
 pub fn refused(r: Refusal) -> Triple
-    ensures { result ≡ refusalTriple r }
+    ensures { result ≡ refusal_triple r }
 {
     Triple {
         first: refusal::number_of(r),

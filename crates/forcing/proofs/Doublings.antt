@@ -12,11 +12,11 @@ use Rattle.state.specs.Registers.{Registers, holds}
 use Rattle.state.proofs.Files.{place_none}
 use Rattle.instruction.specs.declared.Instruction.TheVariants.{Add}
 use Rattle.effect.specs.Notes.{Notes}
-use Rattle.deferred.specs.Limbs.{sumFits, sumInto}
+use Rattle.deferred.specs.Limbs.{sum_fits, sum_into}
 use Rattle.execute.specs.World.{World}
 use Rattle.agreement.specs.Reading.{Full}
 use Rattle.agreement.proofs.Cases.{test-case}
-use Rattle.forcing.specs.Sequences.{forcedBy}
+use Rattle.forcing.specs.Sequences.{forced_by}
 use Rattle.forcing.specs.Statements.{TenDoublingsForceNothing, TheEleventhDoublingForces}
 use Rattle.forcing.proofs.Adding.{after, none-forced, one-forced, full-still, held_after}
 use Rattle.forcing.proofs.Loads.{Load, load-whole, load-sum, light-fits, Exactly, largest-exactly, exactly-load, heavy-forces}
@@ -40,13 +40,13 @@ at-most-ten : (n : ℕ) → n ≤ 10 → doubled n 1 ≤ 1024
 at-most-ten n h = more-often n 10 1 h
 
 module _ (N : Notes) (rd : ℕ) where
-  fits : (j : ℕ) (h : Held) → j + j ≤ 1024 → Load j h → sumFits h h ≡ true
+  fits : (j : ℕ) (h : Held) → j + j ≤ 1024 → Load j h → sum_fits h h ≡ true
   fits j h few l = light-fits h h l l few
 
   -- R0 stays as it is
-  load_after : (j : ℕ) (w : World) → Full w.registers → Load j (holds w.registers rd) → sumFits (holds w.registers rd) (holds w.registers rd) ≡ true
+  load_after : (j : ℕ) (w : World) → Full w.registers → Load j (holds w.registers rd) → sum_fits (holds w.registers rd) (holds w.registers rd) ≡ true
       → Load (j + j) (holds (after N rd rd rd w).registers rd)
-  unfolding sumInto
+  unfolding sum_into
   load_after j w full l t =
       test-case (eqb (rd % 16) 0)
       (λ z.
@@ -54,8 +54,8 @@ module _ (N : Notes) (rd : ℕ) where
       subst⁻¹ (λ (R : Registers). Load (j + j) (holds R rd)) same record { low = omega arith; high = omega arith })
       (λ z. subst⁻¹ (Load (j + j)) (held_after N rd rd rd w full (eqb-false (rd % 16) 0 z) ∙ rw t) (load-sum _ _ l l))
 
-  none : (n j : ℕ) (w : World) → Full w.registers → Load j (holds w.registers rd) → doubled n j ≤ 1024 → forcedBy N (replicate n (Add rd rd rd)) w ≡ 0
-  unfolding forcedBy
+  none : (n j : ℕ) (w : World) → Full w.registers → Load j (holds w.registers rd) → doubled n j ≤ 1024 → forced_by N (replicate n (Add rd rd rd)) w ≡ 0
+  unfolding forced_by
   none zero j w full l few = refl
   none (suc n) j w full l few =
       let t = fits j (holds w.registers rd) (omega (arith, grows n (j + j))) l in
@@ -64,8 +64,8 @@ module _ (N : Notes) (rd : ℕ) where
 
   module _ (some : rd % 16 ≢ 0) where
     one : (n j : ℕ) (w : World) → Full w.registers → Exactly j (holds w.registers rd) → doubled n j ≡ 1024
-        → forcedBy N (replicate (suc n) (Add rd rd rd)) w ≡ 1
-    unfolding forcedBy
+        → forced_by N (replicate (suc n) (Add rd rd rd)) w ≡ 1
+    unfolding forced_by
     one zero j w full l e =
         omega (arith, one-forced N rd rd rd w (heavy-forces (holds w.registers rd) (holds w.registers rd) l l (omega arith)) (replicate 0 (Add rd rd rd)))
     one (suc n) j w full l e =

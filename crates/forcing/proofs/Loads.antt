@@ -9,7 +9,7 @@ use Rattle.memory.specs.Bytes.{bit}
 use Rattle.state.specs.Held.{Held, Whole, low_of, high_of, settled, value_of}
 use Rattle.state.specs.Registers.{Registers, holds}
 use Rattle.state.proofs.Normal.{settled-whole, whole-limbs}
-use Rattle.deferred.specs.Limbs.{sum_of, sumFits, forces}
+use Rattle.deferred.specs.Limbs.{sum_of, sum_fits, forces}
 use Rattle.agreement.proofs.Cases.{test-case}
 use Rattle.forcing.specs.Sums.{IsWhole, IsLargest}
 
@@ -31,11 +31,11 @@ pub load-sum : {p q : ℕ} (x y : Held) → Load p x → Load q y → Load (p + 
 unfolding low_of high_of
 load-sum x y l m = record { low = omega arith; high = omega arith }
 
-pub light-fits : {p q : ℕ} (x y : Held) → Load p x → Load q y → p + q ≤ 1024 → sumFits x y ≡ true
+pub light-fits : {p q : ℕ} (x y : Held) → Load p x → Load q y → p + q ≤ 1024 → sum_fits x y ≡ true
 light-fits x y l m h = rw (lt-ltb (low_of x + low_of y) (2 ^ 30) (omega arith), lt-ltb (high_of x + high_of y) (2 ^ 30) (omega arith))
 
 -- what does not fit is heavier
-heavy : (p q : ℕ) (x y : Held) → Load p x → Load q y → sumFits x y ≡ false → 1025 ≤ p + q
+heavy : (p q : ℕ) (x y : Held) → Load p x → Load q y → sum_fits x y ≡ false → 1025 ≤ p + q
 heavy p q x y l m e =
     test-case (ltb (p + q) 1025)
     (λ t. let f = light-fits x y l m (omega (arith, ltb-true (p + q) 1025 t)) in let z : ◌≡◌ {A = ℕ} 0 1 = cc in absurd (omega arith))
@@ -43,11 +43,11 @@ heavy p q x y l m e =
 
 -- one addition more: n that follow force f, whatever they start from
 pub one_more : (p q n f : ℕ) (x y : Held) → Load p x → Load q y
-    → ((k : ℕ) → Load k (cond (sumFits x y) (sum_of x y) (sum_of (settled x) (settled y))) → 1023 * f ≤ (n + k) - 2)
+    → ((k : ℕ) → Load k (cond (sum_fits x y) (sum_of x y) (sum_of (settled x) (settled y))) → 1023 * f ≤ (n + k) - 2)
     → 1023 * (bit (forces x y) + f) ≤ (n + (p + q)) - 2
-one_more p q n f x y l m rest = told (sumFits x y) refl
+one_more p q n f x y l m rest = told (sum_fits x y) refl
   where
-    told : (t : Bool) → sumFits x y ≡ t → 1023 * (bit (forces x y) + f) ≤ (n + (p + q)) - 2
+    told : (t : Bool) → sum_fits x y ≡ t → 1023 * (bit (forces x y) + f) ≤ (n + (p + q)) - 2
     told true e = let h = rest (p + q) (rw e (load-sum x y l m)) in rw e (omega arith)
     told false e =
         let h = rest 2 (rw e (load-sum (settled x) (settled y) (load-settled x) (load-settled y))) in
@@ -69,5 +69,5 @@ pub exactly-sum : {p q : ℕ} (x y : Held) → Exactly p x → Exactly q y → E
 unfolding low_of high_of
 exactly-sum x y l m = record { low = omega arith; high = omega arith }
 
-pub heavy-forces : {p q : ℕ} (x y : Held) → Exactly p x → Exactly q y → 1025 ≤ p + q → sumFits x y ≡ false
+pub heavy-forces : {p q : ℕ} (x y : Held) → Exactly p x → Exactly q y → 1025 ≤ p + q → sum_fits x y ≡ false
 heavy-forces x y l m h = rw (le-ltb (low_of x + low_of y) (2 ^ 30) (omega arith))

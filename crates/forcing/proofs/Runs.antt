@@ -17,9 +17,9 @@ use Rattle.execute.specs.Execute.{onward, execute}
 use Rattle.execute.specs.Rules.{Rules, obey}
 use Rattle.execute.specs.declared.Mode.TheVariants.{Deferred}
 use Rattle.execute.specs.declared.Went.TheVariants as W
-use Rattle.pending.specs.Pending.{Lists, roomOf, listing}
+use Rattle.pending.specs.Pending.{Lists, room_of, listing}
 use Rattle.pending.specs.declared.Room.{Room}
-use Rattle.step.specs.Step.{fetched, stepIn, forcedAt, Left, left, step_of, step, goesOn}
+use Rattle.step.specs.Step.{fetched, step_in, forced_at, Left, left, step_of, step, goes_on}
 use Rattle.step.proofs.Steps.{step-taken}
 use Rattle.run.specs.Run.{Answer, preceded, run}
 use Rattle.agreement.specs.Keeping.{Capped}
@@ -27,14 +27,14 @@ use Rattle.agreement.specs.Fuel.{takes}
 use Rattle.agreement.proofs.Cases.{test-case}
 use Rattle.agreement.proofs.Ready.{Ready, run-malformed, run-halted, run_none, run_on, ready_on}
 use Rattle.agreement.proofs.Fuel.{runs-force-within}
-use Rattle.forcing.specs.Sequences.{forcedBy, Each, AtPc, Obeys}
-use Rattle.forcing.specs.Sums.{AddsInto, rdFirst, rdSecond, IsAdd, add}
+use Rattle.forcing.specs.Sequences.{forced_by, Each, AtPc, Obeys}
+use Rattle.forcing.specs.Sums.{AddsInto, rd_first, rd_second, IsAdd, add}
 use Rattle.forcing.specs.Statements.{RunsForceAsSequences, RunsForceAtMost}
 use Rattle.forcing.proofs.Adding.{add_is, after, forced-first}
 use Rattle.forcing.proofs.Sums.{sums-force-at-most}
 
 -- ---- a step of the word at the pc
-step_is : (room : Room) (R : Rules) (w : World) (i : Instruction) → AtPc R w i → stepIn Deferred room R w ≡ execute Deferred room R.notes i w
+step_is : (room : Room) (R : Rules) (w : World) (i : Instruction) → AtPc R w i → step_in Deferred room R w ≡ execute Deferred room R.notes i w
 unfolding fetched obey
 step_is room R w i at =
     ap (λ (f : Fetched). fetched Deferred room R f w) at.fetched ∙ ap (λ (d : Decoded). obey Deferred room R d w) at.decoded
@@ -43,14 +43,14 @@ module _ (R : Rules) (w : World) (l : Lists) (rd a b : ℕ) (at : AtPc R w (Add 
   abbrev added-up : Stepped
   added-up = onward w (forces (holds w.registers a) (holds w.registers b)) (added R.notes rd a b w.registers)
 
-  stepped-on : stepIn Deferred (roomOf l) R w ≡ added-up
-  stepped-on = step_is (roomOf l) R w (Add rd a b) at ∙ add_is (roomOf l) R.notes rd a b w
+  stepped-on : step_in Deferred (room_of l) R w ≡ added-up
+  stepped-on = step_is (room_of l) R w (Add rd a b) at ∙ add_is (room_of l) R.notes rd a b w
 
   step-adds : takes Deferred w l ≡ true → step Deferred R w l ≡ left W.On (after R.notes rd a b w) l
   unfolding step_of listing
   step-adds t = sym (step-taken Deferred R w l t) ∙ ap (λ (s : Stepped). left s.went s.world (listing s.checks w.pc l)) stepped-on
 
-  forced-is : forcedAt Deferred R w l ≡ bit (forces (holds w.registers a) (holds w.registers b))
+  forced-is : forced_at Deferred R w l ≡ bit (forces (holds w.registers a) (holds w.registers b))
   forced-is = ap (λ (s : Stepped). bit s.forced) stepped-on
 
 -- ---- the run
@@ -60,26 +60,26 @@ none_left a h e = omega arith
 module _ (R : Rules) (c : Capped R.notes) where
   Same : ℕ → World → Lists → List Instruction → Type 0
   Same fuel w l is =
-      Each IsAdd is → (run Deferred R fuel w l).steps ≡ length is → Obeys R is (left W.On w l) → (run Deferred R fuel w l).forced ≡ forcedBy R.notes is w
+      Each IsAdd is → (run Deferred R fuel w l).steps ≡ length is → Obeys R is (left W.On w l) → (run Deferred R fuel w l).forced ≡ forced_by R.notes is w
 
   -- the first addition, and the run from there
   first : (fuel : ℕ) (w : World) (l : Lists) (i : Instruction) (is : List Instruction) → Ready Deferred w l
       → ((v : World) → Ready Deferred v l → Same fuel v l is) → IsAdd i → Each IsAdd is → AtPc R w i → Obeys R is (step Deferred R w l)
-      → (run Deferred R (suc fuel) w l).steps ≡ suc (length is) → (run Deferred R (suc fuel) w l).forced ≡ forcedBy R.notes (i ∷ is) w
-  unfolding Same goesOn
+      → (run Deferred R (suc fuel) w l).steps ≡ suc (length is) → (run Deferred R (suc fuel) w l).forced ≡ forced_by R.notes (i ∷ is) w
+  unfolding Same goes_on
   first fuel w l _ is ready rest (add {rd} {rs1} {rs2}) each at obeys steps =
       let goes = step-adds R w l rd rs1 rs2 at ready.taken in
-      let on : goesOn (step Deferred R w l).went ≡ true = rw goes in
+      let on : goes_on (step Deferred R w l).went ≡ true = rw goes in
       let v = after R.notes rd rs1 rs2 w in
-      let unbroken : run Deferred R (suc fuel) w l ≡ preceded 1 (forcedAt Deferred R w l) (run Deferred R fuel v l) =
-      run_on Deferred R c w l ready fuel on ∙ ap (λ (s : Left). preceded 1 (forcedAt Deferred R w l) (run Deferred R fuel s.world s.lists)) goes in
+      let unbroken : run Deferred R (suc fuel) w l ≡ preceded 1 (forced_at Deferred R w l) (run Deferred R fuel v l) =
+      run_on Deferred R c w l ready fuel on ∙ ap (λ (s : Left). preceded 1 (forced_at Deferred R w l) (run Deferred R fuel s.world s.lists)) goes in
       let later = rest v (rw goes at (ready_on Deferred R c w l ready on)) each (omega (arith, ap (λ (x : Answer). x.steps) unbroken)) (rw goes at obeys) in
       ap (λ (x : Answer). x.forced) unbroken
       ∙ ap₂ (λ (m n : ℕ). m + n) (forced-is R w l rd rs1 rs2 at) later
       ∙ sym (forced-first R.notes rd rs1 rs2 w is)
 
   same : (fuel : ℕ) (w : World) (l : Lists) (is : List Instruction) → Ready Deferred w l → Same fuel w l is
-  unfolding Same Each Obeys forcedBy
+  unfolding Same Each Obeys forced_by
   same fuel w l [] ready each steps obeys = none_left (run Deferred R fuel w l) (runs-force-within R Deferred fuel w l) steps
   same zero w l (i ∷ is) ready each steps obeys =
       absurd (omega (arith, ap (λ (x : Answer). x.steps) (run_none Deferred R c w l ready)))
@@ -88,7 +88,7 @@ module _ (R : Rules) (c : Capped R.notes) where
 
   -- one that is malformed or halted takes no step
   idle : (fuel : ℕ) (w : World) (l : Lists) (is : List Instruction) → (run Deferred R fuel w l).steps ≡ 0 → Same fuel w l is
-  unfolding Same forcedBy
+  unfolding Same forced_by
   idle fuel w l [] none each steps obeys = none_left (run Deferred R fuel w l) (runs-force-within R Deferred fuel w l) none
   idle fuel w l (i ∷ is) none each steps obeys = absurd (omega arith)
 
@@ -104,8 +104,8 @@ runs-force-as-sequences R c fuel w l is =
 
 -- ---- sums into one register
 is-add : (rd : ℕ) (P : ℕ → Type 0) (i : Instruction) → AddsInto rd P i → IsAdd i
-is-add rd P _ (rdFirst z p) = add
-is-add rd P _ (rdSecond z p) = add
+is-add rd P _ (rd_first z p) = add
+is-add rd P _ (rd_second z p) = add
 
 all-adds : (rd : ℕ) (P : ℕ → Type 0) (is : List Instruction) → Each (AddsInto rd P) is → Each IsAdd is
 unfolding Each

@@ -3,9 +3,9 @@ use Prim.Native.Nat.{ℕ, ◌+◌}
 use mathlib.Core.Path.{◌≡◌}
 use mathlib.Core.List.{List, [], ◌∷◌}
 use Rattle.memory.specs.Bytes.{bit}
-use Rattle.memory.specs.Memory.{fetchOf}
+use Rattle.memory.specs.Memory.{fetch_of}
 use Rattle.memory.specs.declared.Fetched.TheVariants as F
-use Rattle.words.specs.Words.{decodeIn}
+use Rattle.words.specs.Words.{decode_in}
 use Rattle.words.specs.declared.Decoded.TheVariants as D
 use Rattle.instruction.specs.declared.Instruction.{Instruction}
 use Rattle.effect.specs.Notes.{Notes}
@@ -17,9 +17,9 @@ use Rattle.pending.specs.declared.Room.TheVariants.{Unlent}
 use Rattle.step.specs.Step.{Left, step}
 
 -- how many of them force a carry
-unfoldable pub forcedBy : Notes → List Instruction → World → ℕ
-forcedBy N [] w = 0
-forcedBy N (i ∷ is) w = let s = execute Deferred Unlent N i w in bit s.forced + forcedBy N is s.world
+unfoldable pub forced_by : Notes → List Instruction → World → ℕ
+forced_by N [] w = 0
+forced_by N (i ∷ is) w = let s = execute Deferred Unlent N i w in bit s.forced + forced_by N is s.world
 
 -- P holds of each of them
 unfoldable pub Each : (Instruction → Type 0) → List Instruction → Type 0
@@ -29,8 +29,8 @@ Each P (i ∷ is) = P i × Each P is
 -- the word at the pc is that instruction's
 pub record AtPc (R : Rules) (w : World) (i : Instruction) : Type 0 where
   pub word : ℕ
-  pub fetched : fetchOf w.memory w.pc ≡ F.Word word
-  pub decoded : decodeIn R.number word ≡ D.Instruction i
+  pub fetched : fetch_of w.memory w.pc ≡ F.Word word
+  pub decoded : decode_in R.number word ≡ D.Instruction i
 
 -- the first steps after s, as many as there are instructions, are of these
 unfoldable pub Obeys : Rules → List Instruction → Left → Type 0

@@ -9,8 +9,8 @@ use Rattle.instruction.specs.declared.Instruction.TheVariants.{Add}
 
 -- an addition into rd of another register, of which P holds: rd, rd, rs or rd, rs, rd
 pub data AddsInto (rd : ℕ) (P : ℕ → Type 0) : Instruction → Type 0 where
-  rdFirst : {rs : ℕ} → rs % 16 ≢ rd % 16 → P rs → AddsInto rd P (Add rd rd rs)
-  rdSecond : {rs : ℕ} → rs % 16 ≢ rd % 16 → P rs → AddsInto rd P (Add rd rs rd)
+  rd_first : {rs : ℕ} → rs % 16 ≢ rd % 16 → P rs → AddsInto rd P (Add rd rd rs)
+  rd_second : {rs : ℕ} → rs % 16 ≢ rd % 16 → P rs → AddsInto rd P (Add rd rs rd)
 
 pub record IsWhole (R : Registers) (n : ℕ) : Type 0 where
   pub value : ℕ

@@ -1,7 +1,7 @@
 -- The forms are document 01's kinds of words, by the numbers of the opcodes.
 use Rattle.std.proofs.Common.{◌≡◌, ℕ, Bool, true, false, List, [], ◌∷◌, refl}
-use Rattle.encoding.specs.Kinds.{isR, isI, isS, is_b, isJ}
-use Rattle.opcode.specs.Opcodes.{opcodeNumber, form_of, all}
+use Rattle.encoding.specs.Kinds.{is_r, is_i, is_s, is_b, is_j}
+use Rattle.opcode.specs.Opcodes.{opcode_number, form_of, all}
 use Rattle.opcode.specs.declared.Opcode.{Opcode}
 use Rattle.opcode.specs.declared.Opcode.TheVariants as O
 use Rattle.opcode.specs.declared.Form.{Form}
@@ -10,18 +10,18 @@ use Rattle.opcode.proofs.Arms.{everywhere}
 use Rattle.opcode.proofs.Variants.{place, all-at}
 
 -- of kind R, I, S, B, J
-abbrev pub kindsAt : ℕ → List Bool
-kindsAt n = isR n ∷ isI n ∷ isS n ∷ is_b n ∷ isJ n ∷ []
+abbrev pub kinds_at : ℕ → List Bool
+kinds_at n = is_r n ∷ is_i n ∷ is_s n ∷ is_b n ∷ is_j n ∷ []
 
-abbrev pub kindsOf : Form → List Bool
-kindsOf R = true ∷ false ∷ false ∷ false ∷ false ∷ []
-kindsOf I = false ∷ true ∷ false ∷ false ∷ false ∷ []
-kindsOf Shift = false ∷ true ∷ false ∷ false ∷ false ∷ []
-kindsOf S = false ∷ false ∷ true ∷ false ∷ false ∷ []
-kindsOf B = false ∷ false ∷ false ∷ true ∷ false ∷ []
-kindsOf J = false ∷ false ∷ false ∷ false ∷ true ∷ []
-kindsOf Alone = true ∷ false ∷ false ∷ false ∷ false ∷ []
+abbrev pub kinds_of : Form → List Bool
+kinds_of R = true ∷ false ∷ false ∷ false ∷ false ∷ []
+kinds_of I = false ∷ true ∷ false ∷ false ∷ false ∷ []
+kinds_of Shift = false ∷ true ∷ false ∷ false ∷ false ∷ []
+kinds_of S = false ∷ false ∷ true ∷ false ∷ false ∷ []
+kinds_of B = false ∷ false ∷ false ∷ true ∷ false ∷ []
+kinds_of J = false ∷ false ∷ false ∷ false ∷ true ∷ []
+kinds_of Alone = true ∷ false ∷ false ∷ false ∷ false ∷ []
 
-pub kinds : (op : Opcode) → kindsAt (opcodeNumber op) ≡ kindsOf (form_of op)
+pub kinds : (op : Opcode) → kinds_at (opcode_number op) ≡ kinds_of (form_of op)
 unfolding all
-kinds = everywhere all O.Add place all-at (λ (op : Opcode). kindsAt (opcodeNumber op)) (λ (op : Opcode). kindsOf (form_of op)) refl refl
+kinds = everywhere all O.Add place all-at (λ (op : Opcode). kinds_at (opcode_number op)) (λ (op : Opcode). kinds_of (form_of op)) refl refl

@@ -1,9 +1,9 @@
 // How an instruction of each opcode lies in its word (document 01, "Words"), and what a word of each form has beside its opcode and
 // registers.
 ghost use Rattle.std.specs.Prelude.{◌≡◌, ◌/◌, ◌^◌};
-ghost use Rattle.encoding.specs.Fields.{fitsIn};
+ghost use Rattle.encoding.specs.Fields.{fits_in};
 ghost use Rattle.opcode.specs.Opcodes.{form_of};
-ghost use Rattle.forms.specs.Forms.{usedBits, immediate_of, immFits};
+ghost use Rattle.forms.specs.Forms.{used_bits, immediate_of, imm_fits};
 
 use encoding::fields;
 use opcode::{Form, Opcode};
@@ -38,7 +38,7 @@ pub fn form_of(op: Opcode) -> Form
 
 // The bits of a word above those that its form uses.
 pub fn unused(f: Form, word: u32) -> u32
-    ensures { result ≡ word / 2 ^ usedBits f }
+    ensures { result ≡ word / 2 ^ used_bits f }
 {
     match f {
         Form::R => word >> fields::FUNCT_SHIFT,
@@ -68,20 +68,20 @@ pub fn immediate(f: Form, word: u32) -> u64
 
 // -2^16 to 2^16 - 1 and -2^20 to 2^20 - 1, by one sum and one comparison.
 fn fits_17(imm: u64) -> bool
-    ensures { result ≡ fitsIn 16 imm }
+    ensures { result ≡ fits_in 16 imm }
 {
     std::num::wrapping_add_u64(imm, 0x1_0000) < 0x2_0000
 }
 
 fn fits_21(imm: u64) -> bool
-    ensures { result ≡ fitsIn 20 imm }
+    ensures { result ≡ fits_in 20 imm }
 {
     std::num::wrapping_add_u64(imm, 0x10_0000) < 0x20_0000
 }
 
 // Whether the field of a form holds a number.
 pub fn imm_fits(f: Form, imm: u64) -> bool
-    ensures { result ≡ immFits f imm }
+    ensures { result ≡ imm_fits f imm }
 {
     match f {
         Form::I | Form::S | Form::B => fits_17(imm),

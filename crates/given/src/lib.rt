@@ -1,13 +1,13 @@
 // One given instruction, in the plain mode and in the deferred one.
 ghost use Rattle.std.specs.Prelude.{◌≡◌};
-ghost use Rattle.refusal.specs.Stops.{refusalOf};
-ghost use Rattle.words.specs.Words.{decodeIn};
+ghost use Rattle.refusal.specs.Stops.{refusal_of};
+ghost use Rattle.words.specs.Words.{decode_in};
 ghost use Rattle.pending.specs.declared.Room.TheVariants.{Unlent};
 ghost use Rattle.pending.specs.declared.Checks.TheVariants.{Nothing};
-ghost use Rattle.execute.specs.World.{worldOf};
-ghost use Rattle.execute.specs.Rules.{rulesOf, obey};
+ghost use Rattle.execute.specs.World.{world_of};
+ghost use Rattle.execute.specs.Rules.{rules_of, obey};
 ghost use Rattle.execute.specs.declared.Went.TheVariants.{Refused};
-ghost use Rattle.given.specs.Given.{executeOne, executed};
+ghost use Rattle.given.specs.Given.{execute_one, executed};
 
 use execute::word::obey;
 use execute::{Choices, Start, Went, admits};
@@ -25,7 +25,7 @@ pub struct Executed {
 }
 
 fn malformed(s: State) -> Executed
-    ensures { result ≡ record { went = Refused (refusalOf 9 0); checks = Nothing; state = s } }
+    ensures { result ≡ record { went = Refused (refusal_of 9 0); checks = Nothing; state = s } }
 {
     Executed {
         went: Went::Refused(Refusal::Malformed),
@@ -35,7 +35,7 @@ fn malformed(s: State) -> Executed
 }
 
 fn execute_word(choices: Choices, word: u32, s: State, m: &mut [u8]) -> Executed
-    ensures { executed result m.new ≡ obey choices.mode Unlent (rulesOf choices) (decodeIn (rulesOf choices).number word) (worldOf s m.old) }
+    ensures { executed result m.new ≡ obey choices.mode Unlent (rules_of choices) (decode_in (rules_of choices).number word) (world_of s m.old) }
 {
     let mut regs = s.regs;
     let mut accumulated = s.accumulated;
@@ -58,7 +58,7 @@ fn execute_word(choices: Choices, word: u32, s: State, m: &mut [u8]) -> Executed
 
 // One given instruction, on a state by value: its word is obeyed. No list of checks is lent: those that it asks for are in the answer.
 pub fn execute(choices: Choices, i: Instruction, s: State, m: &mut [u8]) -> Executed
-    ensures { executed result m.new ≡ executeOne choices.mode (rulesOf choices).notes i (worldOf s m.old) }
+    ensures { executed result m.new ≡ execute_one choices.mode (rules_of choices).notes i (world_of s m.old) }
 {
     let mode = choices.mode;
     if !admits(mode, &s.regs, &s.accumulated, &s.bounds) {

@@ -6,34 +6,34 @@ use mathlib.Core.List.{List}
 use lib.ListN.{length}
 use lib.Dec.{leb, eqb}
 use borrow.Author.Tests.{eq-eqb, ne_eqb, eqb-true}
-use Rattle.refusal.specs.Stops.{code_of, particularAt}
+use Rattle.refusal.specs.Stops.{code_of, particular_at}
 use Rattle.memory.specs.Bytes.{number_at}
-use Rattle.state.specs.Formed.{all_below, registersOf}
+use Rattle.state.specs.Formed.{all_below, registers_of}
 use Rattle.execute.specs.Execute.{admits}
 use Rattle.refusal.specs.declared.Stop.TheVariants as S
-use Rattle.pending.specs.Pending.{room_at, noLists}
+use Rattle.pending.specs.Pending.{room_at, no_lists}
 use Rattle.pending.specs.declared.Room.TheVariants.{Unlent}
-use Rattle.execute.specs.World.{World, worldOf}
-use Rattle.execute.specs.Rules.{rulesOf}
+use Rattle.execute.specs.World.{World, world_of}
+use Rattle.execute.specs.Rules.{rules_of}
 use Rattle.execute.specs.declared.Choices.{Choices}
-use Rattle.step.specs.Leg.{Leg, legIn}
-use Rattle.run.specs.Run.{Answer, answer, stopOf, loop, run}
+use Rattle.step.specs.Leg.{Leg, leg_in}
+use Rattle.run.specs.Run.{Answer, answer, stop_of, loop, run}
 use Rattle.run.proofs.Loops.{unlent-leg}
-use Rattle.layout.specs.Reading.{readIn}
+use Rattle.layout.specs.Reading.{read_in}
 use Rattle.layout.specs.declared.reading.Reading.{Reading}
-use Rattle.layout.specs.Layout.{STATE_BYTES, stateBytes, stateIn, recordLaid, wellLaid, written}
-use Rattle.layout.specs.Answer.{ANSWER_BYTES, answerBytes}
-use Rattle.host.specs.Call.{mode_of, state_of, called, callTaken, ranOn, call_of}
-use Rattle.host.specs.Unlisted.{unlistedRun}
+use Rattle.layout.specs.Layout.{STATE_BYTES, state_bytes, state_in, record_laid, well_laid, written}
+use Rattle.layout.specs.Answer.{ANSWER_BYTES, answer_bytes}
+use Rattle.host.specs.Call.{mode_of, state_of, called, call_taken, ran_on, call_of}
+use Rattle.host.specs.Unlisted.{unlisted_run}
 
 -- a leg of a state that is not halted
-pub one-leg : (c : Choices) (fuel : ℕ) (w : World) (a : Leg) → w.halted ≡ false → a ≡ legIn fuel c.mode Unlent (rulesOf c) w
-    → answer (stopOf a.went) a.steps a.world noLists ≡ unlistedRun c fuel w
+pub one-leg : (c : Choices) (fuel : ℕ) (w : World) (a : Leg) → w.halted ≡ false → a ≡ leg_in fuel c.mode Unlent (rules_of c) w
+    → answer (stop_of a.went) a.steps a.world no_lists ≡ unlisted_run c fuel w
 unfolding room_at
 one-leg c fuel w a h e =
-    ap (λ (a : Leg). answer (stopOf a.went) a.steps a.world noLists) e
-    ∙ unlent-leg fuel c.mode (rulesOf c) w noLists refl
-    ∙ ap (λ (t : Bool). cond t (answer S.Ebreak 0 w noLists) (loop fuel c.mode (rulesOf c) w noLists)) (sym h)
+    ap (λ (a : Leg). answer (stop_of a.went) a.steps a.world no_lists) e
+    ∙ unlent-leg fuel c.mode (rules_of c) w no_lists refl
+    ∙ ap (λ (t : Bool). cond t (answer S.Ebreak 0 w no_lists) (loop fuel c.mode (rules_of c) w no_lists)) (sym h)
 
 -- of four tests that hold together
 first-of-four : (a b c d : Bool) → (a && b && c && d) ≡ true → a ≡ true
@@ -47,62 +47,62 @@ last-of-four true false c d e = (cc, cc)
 last-of-four false b c d e = (cc, cc)
 
 module _ (st m an : List ℕ) (fuel mode : ℕ) where
-  refused : (code : ℕ) (an' : List ℕ) → callTaken st an mode ≡ false → code ≡ 9 → an' ≡ written ANSWER_BYTES (answerBytes 9 0 0) an
+  refused : (code : ℕ) (an' : List ℕ) → call_taken st an mode ≡ false → code ≡ 9 → an' ≡ written ANSWER_BYTES (answer_bytes 9 0 0) an
       → called code st m an' ≡ call_of st m an fuel mode
   unfolding call_of
   refused code an' t c e = rw (t, c, e)
 
-  pub call-refused : (code : ℕ) (an' : List ℕ) (r : Reading) (t : Bool) → r ≡ readIn st
-      → t ≡ (eqb (length an) ANSWER_BYTES && leb mode 1 && r.laid && admits (mode_of mode) (registersOf r.state)) → t ≡ false
-      → (code ≡ 9) × (an' ≡ written ANSWER_BYTES (answerBytes 9 0 0) an) → called code st m an' ≡ call_of st m an fuel mode
-  unfolding callTaken
+  pub call-refused : (code : ℕ) (an' : List ℕ) (r : Reading) (t : Bool) → r ≡ read_in st
+      → t ≡ (eqb (length an) ANSWER_BYTES && leb mode 1 && r.laid && admits (mode_of mode) (registers_of r.state)) → t ≡ false
+      → (code ≡ 9) × (an' ≡ written ANSWER_BYTES (answer_bytes 9 0 0) an) → called code st m an' ≡ call_of st m an fuel mode
+  unfolding call_taken
   call-refused code an' r t e q f h = refused code an' ((rw e at (sym q)) ∙ f) h.0 h.1
 
   pub call-of-another-length : (code : ℕ) (an' : List ℕ) → (length st ≡ STATE_BYTES → ⊥)
-      → (code ≡ 9) × (an' ≡ written ANSWER_BYTES (answerBytes 9 0 0) an) → called code st m an' ≡ call_of st m an fuel mode
-  unfolding callTaken wellLaid
+      → (code ≡ 9) × (an' ≡ written ANSWER_BYTES (answer_bytes 9 0 0) an) → called code st m an' ≡ call_of st m an fuel mode
+  unfolding call_taken well_laid
   call-of-another-length code an' n h =
       refused code an' (rw (ne_eqb (length st) STATE_BYTES n) (none_of (eqb (length an) ANSWER_BYTES) (leb mode 1))) h.0 h.1
     where
-      none_of : (a b : Bool) → (a && b && false && admits (mode_of mode) (registersOf (stateIn st))) ≡ false
+      none_of : (a b : Bool) → (a && b && false && admits (mode_of mode) (registers_of (state_in st))) ≡ false
       none_of true true = refl
       none_of true false = refl
       none_of false b = refl
 
-  module _ (t : callTaken st an mode ≡ true) where
+  module _ (t : call_taken st an mode ≡ true) where
     -- a taken call has the sizes that are written
     answer-size : length an ≡ ANSWER_BYTES
-    unfolding callTaken
+    unfolding call_taken
     answer-size =
-        eqb-true _ _ (first-of-four (eqb (length an) ANSWER_BYTES) (leb mode 1) (wellLaid st) (admits (mode_of mode) (registersOf (stateIn st))) t)
+        eqb-true _ _ (first-of-four (eqb (length an) ANSWER_BYTES) (leb mode 1) (well_laid st) (admits (mode_of mode) (registers_of (state_in st))) t)
 
-    allowed : (wellLaid st ≡ true) × (admits (mode_of mode) (registersOf (stateIn st)) ≡ true)
-    unfolding callTaken
-    allowed = last-of-four (eqb (length an) ANSWER_BYTES) (leb mode 1) (wellLaid st) (admits (mode_of mode) (registersOf (stateIn st))) t
+    allowed : (well_laid st ≡ true) × (admits (mode_of mode) (registers_of (state_in st)) ≡ true)
+    unfolding call_taken
+    allowed = last-of-four (eqb (length an) ANSWER_BYTES) (leb mode 1) (well_laid st) (admits (mode_of mode) (registers_of (state_in st))) t
 
-    state-size : wellLaid st ≡ true → length st ≡ STATE_BYTES
-    unfolding wellLaid
+    state-size : well_laid st ≡ true → length st ≡ STATE_BYTES
+    unfolding well_laid
     state-size e =
-        eqb-true _ _ (first-of-four (eqb (length st) STATE_BYTES) (leb (number_at 1 st 8) 1) (eqb (number_at 7 st 9) 0) (all_below (recordLaid st) 16) e)
+        eqb-true _ _ (first-of-four (eqb (length st) STATE_BYTES) (leb (number_at 1 st 8) 1) (eqb (number_at 7 st 9) 0) (all_below (record_laid st) 16) e)
 
-    ran : unlistedRun (record { mode = mode_of mode }) fuel (worldOf (stateIn st) m) ≡ ranOn mode fuel (stateIn st) m
+    ran : unlisted_run (record { mode = mode_of mode }) fuel (world_of (state_in st) m) ≡ ran_on mode fuel (state_in st) m
     unfolding run
     ran = rw allowed.1
 
-    served-call : (a : Answer) (st' an' : List ℕ) (code : ℕ) → a ≡ unlistedRun (record { mode = mode_of mode }) fuel (worldOf (stateIn st) m)
-        → code ≡ code_of a.stop → st' ≡ written STATE_BYTES (stateBytes (state_of a.world)) st
-        → an' ≡ written ANSWER_BYTES (answerBytes (code_of a.stop) a.steps (particularAt a.stop)) an
+    served-call : (a : Answer) (st' an' : List ℕ) (code : ℕ) → a ≡ unlisted_run (record { mode = mode_of mode }) fuel (world_of (state_in st) m)
+        → code ≡ code_of a.stop → st' ≡ written STATE_BYTES (state_bytes (state_of a.world)) st
+        → an' ≡ written ANSWER_BYTES (answer_bytes (code_of a.stop) a.steps (particular_at a.stop)) an
         → called code st' a.world.memory an' ≡ call_of st m an fuel mode
     unfolding call_of written
     served-call a st' an' code e c f g =
         rw (t, ← (e ∙ ran), f, g, eq-eqb (length st) STATE_BYTES (state-size allowed.0), eq-eqb (length an) ANSWER_BYTES answer-size, c)
 
-  pub call-served : (r : Reading) (t : Bool) → r ≡ readIn st
-      → t ≡ (eqb (length an) ANSWER_BYTES && leb mode 1 && r.laid && admits (mode_of mode) (registersOf r.state)) → t ≡ true
-      → (a : Answer) (st' an' : List ℕ) (code : ℕ) → a ≡ unlistedRun (record { mode = mode_of mode }) fuel (worldOf r.state m)
-      → (code ≡ code_of a.stop) × (st' ≡ written STATE_BYTES (stateBytes (state_of a.world)) st)
-      × (an' ≡ written ANSWER_BYTES (answerBytes (code_of a.stop) a.steps (particularAt a.stop)) an)
+  pub call-served : (r : Reading) (t : Bool) → r ≡ read_in st
+      → t ≡ (eqb (length an) ANSWER_BYTES && leb mode 1 && r.laid && admits (mode_of mode) (registers_of r.state)) → t ≡ true
+      → (a : Answer) (st' an' : List ℕ) (code : ℕ) → a ≡ unlisted_run (record { mode = mode_of mode }) fuel (world_of r.state m)
+      → (code ≡ code_of a.stop) × (st' ≡ written STATE_BYTES (state_bytes (state_of a.world)) st)
+      × (an' ≡ written ANSWER_BYTES (answer_bytes (code_of a.stop) a.steps (particular_at a.stop)) an)
       → called code st' a.world.memory an' ≡ call_of st m an fuel mode
-  unfolding callTaken
+  unfolding call_taken
   call-served r t e q f a st' an' code h l =
       served-call ((rw e at (sym q)) ∙ f) a st' an' code (rw e at h) l.0 l.1 l.2

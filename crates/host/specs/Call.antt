@@ -1,23 +1,23 @@
 -- Document 01 on the host's call: "state, memory, a 24-byte answer, fuel, and a mode number, 0 plain or 1 deferred".
 use Rattle.std.specs.Prelude.{ℕ, Bool, cond, ◌&&◌, List, length, leb, eqb}
-use Rattle.refusal.specs.Stops.{code_of, particularAt}
-use Rattle.state.specs.Formed.{registersOf}
+use Rattle.refusal.specs.Stops.{code_of, particular_at}
+use Rattle.state.specs.Formed.{registers_of}
 use Rattle.state.specs.declared.State.{State}
-use Rattle.execute.specs.World.{World, worldOf}
+use Rattle.execute.specs.World.{World, world_of}
 use Rattle.execute.specs.Execute.{admits}
 use Rattle.execute.specs.declared.Mode.{Mode}
 use Rattle.execute.specs.declared.Mode.TheVariants.{Plain, Deferred}
-use Rattle.pending.specs.Pending.{noLists}
-use Rattle.execute.specs.Rules.{documentRules}
+use Rattle.pending.specs.Pending.{no_lists}
+use Rattle.execute.specs.Rules.{document_rules}
 use Rattle.run.specs.Run.{Answer, run}
-use Rattle.layout.specs.Layout.{stateBytes, stateIn, wellLaid, written}
-use Rattle.layout.specs.Answer.{ANSWER_BYTES, answerBytes}
+use Rattle.layout.specs.Layout.{state_bytes, state_in, well_laid, written}
+use Rattle.layout.specs.Answer.{ANSWER_BYTES, answer_bytes}
 
 unfoldable pub mode_of : ℕ → Mode
 mode_of n = cond (eqb n 0) Plain Deferred
 
-abbrev pub ranOn : ℕ → ℕ → State → List ℕ → Answer
-ranOn mode fuel s m = run (mode_of mode) documentRules fuel (worldOf s m) noLists
+abbrev pub ran_on : ℕ → ℕ → State → List ℕ → Answer
+ran_on mode fuel s m = run (mode_of mode) document_rules fuel (world_of s m) no_lists
 
 -- a state by value again
 abbrev pub state_of : World → State
@@ -35,19 +35,19 @@ abbrev pub called : ℕ → List ℕ → List ℕ → List ℕ → Called
 called code st m an = record { code = code; state = st; memory = m; answer = an }
 
 -- "A wrong length, mode or any state these rules forbid, its header too, gives 9": a state is taken if the mode's run admits it
-unfoldable pub callTaken : List ℕ → List ℕ → ℕ → Bool
-callTaken st an mode = eqb (length an) ANSWER_BYTES && leb mode 1 && wellLaid st && admits (mode_of mode) (registersOf (stateIn st))
+unfoldable pub call_taken : List ℕ → List ℕ → ℕ → Bool
+call_taken st an mode = eqb (length an) ANSWER_BYTES && leb mode 1 && well_laid st && admits (mode_of mode) (registers_of (state_in st))
 
 -- "code, steps, particular"; "The call also returns the code"
-abbrev pub callServed : Answer → Called
-callServed a =
+abbrev pub call_served : Answer → Called
+call_served a =
     called
     (code_of a.stop)
-    (stateBytes (state_of a.world))
+    (state_bytes (state_of a.world))
     a.world.memory
-    (answerBytes (code_of a.stop) a.steps (particularAt a.stop))
+    (answer_bytes (code_of a.stop) a.steps (particular_at a.stop))
 
 -- "Then a 24-byte answer holds 9, 0, 0; one of another length isn't written"
 unfoldable pub call_of : List ℕ → List ℕ → List ℕ → ℕ → ℕ → Called
 call_of st m an fuel mode =
-    cond (callTaken st an mode) (callServed (ranOn mode fuel (stateIn st) m)) (called 9 st m (written ANSWER_BYTES (answerBytes 9 0 0) an))
+    cond (call_taken st an mode) (call_served (ran_on mode fuel (state_in st) m)) (called 9 st m (written ANSWER_BYTES (answer_bytes 9 0 0) an))

@@ -1,15 +1,15 @@
 // What the host lends, and its call of the run.
 ghost use Rattle.std.specs.Prelude.{◌≡◌, ◌&&◌, eqb, leb};
-ghost use Rattle.pending.specs.Pending.{noLists};
-ghost use Rattle.state.specs.Formed.{registersOf};
-ghost use Rattle.execute.specs.World.{worldOf};
+ghost use Rattle.pending.specs.Pending.{no_lists};
+ghost use Rattle.state.specs.Formed.{registers_of};
+ghost use Rattle.execute.specs.World.{world_of};
 ghost use Rattle.execute.specs.Execute.{admits};
-ghost use Rattle.refusal.specs.Stops.{code_of, particularAt};
-ghost use Rattle.layout.specs.Layout.{STATE_BYTES, stateBytes, written};
-ghost use Rattle.layout.specs.Answer.{ANSWER_BYTES, answerBytes};
+ghost use Rattle.refusal.specs.Stops.{code_of, particular_at};
+ghost use Rattle.layout.specs.Layout.{STATE_BYTES, state_bytes, written};
+ghost use Rattle.layout.specs.Answer.{ANSWER_BYTES, answer_bytes};
 ghost use Rattle.run.specs.Run.{answer};
 ghost use Rattle.host.specs.Call.{mode_of, called, call_of};
-ghost use Rattle.host.specs.Unlisted.{unlistedRun};
+ghost use Rattle.host.specs.Unlisted.{unlisted_run};
 
 use execute::{Choices, Mode};
 use layout::STATE_BYTES;
@@ -34,7 +34,7 @@ pub fn mode_of(n: u64) -> Mode
 }
 
 fn call_taken(r: Reading, answer: usize, mode: u64) -> bool
-    ensures { result ≡ (eqb answer ANSWER_BYTES && leb mode 1 && r.laid && admits (mode_of mode) (registersOf r.state)) }
+    ensures { result ≡ (eqb answer ANSWER_BYTES && leb mode 1 && r.laid && admits (mode_of mode) (registers_of r.state)) }
 {
     if answer != ANSWER_BYTES {
         return false;
@@ -51,7 +51,7 @@ fn call_taken(r: Reading, answer: usize, mode: u64) -> bool
 
 // The run of a state that its mode takes, with no list lent: one leg.
 fn run_taken(choices: Choices, s: State, fuel: u64, m: &mut [u8]) -> Ran
-    ensures { answer result.stop result.steps (worldOf result.state m.new) noLists ≡ unlistedRun choices fuel (worldOf s m.old) }
+    ensures { answer result.stop result.steps (world_of result.state m.new) no_lists ≡ unlisted_run choices fuel (world_of s m.old) }
 {
     if s.halted {
         return Ran {
@@ -74,7 +74,7 @@ fn run_taken(choices: Choices, s: State, fuel: u64, m: &mut [u8]) -> Ran
 
 // Writes what a run leaves, and answers its code.
 fn leave(state: &mut [u8], answer: &mut [u8], r: Ran) -> u64
-    ensures { (result ≡ code_of r.stop) × (state.new ≡ written STATE_BYTES (stateBytes r.state) state.old) × (answer.new ≡ written ANSWER_BYTES (answerBytes (code_of r.stop) r.steps (particularAt r.stop)) answer.old) }
+    ensures { (result ≡ code_of r.stop) × (state.new ≡ written STATE_BYTES (state_bytes r.state) state.old) × (answer.new ≡ written ANSWER_BYTES (answer_bytes (code_of r.stop) r.steps (particular_at r.stop)) answer.old) }
 {
     let stop = r.stop;
     let after = r.state;
@@ -85,7 +85,7 @@ fn leave(state: &mut [u8], answer: &mut [u8], r: Ran) -> u64
 }
 
 fn malformed(answer: &mut [u8]) -> u64
-    ensures { (result ≡ 9) × (answer.new ≡ written ANSWER_BYTES (answerBytes 9 0 0) answer.old) }
+    ensures { (result ≡ 9) × (answer.new ≡ written ANSWER_BYTES (answer_bytes 9 0 0) answer.old) }
 {
     write_answer(answer, 9, 0, 0);
     9

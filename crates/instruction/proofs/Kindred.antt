@@ -10,7 +10,7 @@ use Rattle.opcode.specs.declared.Opcode.{Opcode}
 use Rattle.opcode.specs.declared.Opcode.TheVariants as O
 use Rattle.opcode.proofs.Arms.{those, along, arm}
 use Rattle.opcode.proofs.Variants.{place, all-at}
-use Rattle.instruction.specs.Operands.{built, instructionOf}
+use Rattle.instruction.specs.Operands.{built, instruction_of}
 use Rattle.instruction.specs.declared.Instruction.{Instruction}
 use Rattle.instruction.specs.declared.Parts.{Parts}
 
@@ -27,5 +27,5 @@ others tag f x = arm all O.Add place all-at f x (alike (λ (op : Opcode). tag (f
 -- an instruction that is the joined one at some places
 pub at_places : (p : Parts) (f : Opcode → Instruction) (ks : List ℕ)
     → map (λ (k : ℕ). f (get_or all k O.Add)) ks ≡ map (λ (k : ℕ). built (get_or all k O.Add) p.a p.b p.c p.imm) ks
-    → OneOf ks (place p.op) → f p.op ≡ instructionOf p
+    → OneOf ks (place p.op) → f p.op ≡ instruction_of p
 at_places p f ks e = along all O.Add place all-at f (λ (op : Opcode). built op p.a p.b p.c p.imm) ks e p.op

@@ -2,7 +2,7 @@
 use Prim.Native.Nat.{ℕ}
 use mathlib.Core.Path.{◌≡◌, refl, sym, ap, ◌∙◌}
 use Rattle.opcode.specs.Opcodes.{form_of, all}
-use Rattle.instruction.specs.Operands.{built, instructionOf, parts_of}
+use Rattle.instruction.specs.Operands.{built, instruction_of, parts_of}
 use Rattle.opcode.specs.declared.Opcode.{Opcode}
 use Rattle.opcode.specs.declared.Opcode.TheVariants as O
 use Rattle.opcode.specs.declared.Form.{Form}
@@ -43,7 +43,7 @@ kept_op B p = refl
 kept_op J p = refl
 kept_op Alone p = refl
 
-pub parts-joined : (p : Parts) → parts_of (instructionOf p) ≡ kept (form_of p.op) p
+pub parts-joined : (p : Parts) → parts_of (instruction_of p) ≡ kept (form_of p.op) p
 unfolding kept all
 parts-joined p =
     everywhere all O.Add place all-at
@@ -53,7 +53,7 @@ parts-joined p =
     refl
     p.op
 
-pub joined-parts : (i : Instruction) → instructionOf (parts_of i) ≡ i
+pub joined-parts : (i : Instruction) → instruction_of (parts_of i) ≡ i
 joined-parts (N.Add rd rs1 rs2) = refl
 joined-parts (N.Sub rd rs1 rs2) = refl
 joined-parts (N.Addi rd rs1 imm) = refl
@@ -106,8 +106,8 @@ joined-parts N.Ecall = refl
 joined-parts N.Ebreak = refl
 
 -- the other operands are ignored
-pub joined-kept : (p : Parts) → instructionOf (kept (form_of p.op) p) ≡ instructionOf p
-joined-kept p = ap instructionOf (sym (parts-joined p)) ∙ joined-parts (instructionOf p)
+pub joined-kept : (p : Parts) → instruction_of (kept (form_of p.op) p) ≡ instruction_of p
+joined-kept p = ap instruction_of (sym (parts-joined p)) ∙ joined-parts (instruction_of p)
 
 -- the parts of an instruction have 0 for them
 pub parts-kept : (i : Instruction) → parts_of i ≡ kept (form_of (parts_of i).op) (parts_of i)

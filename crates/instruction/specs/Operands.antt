@@ -73,64 +73,64 @@ built O.Jalr a b c imm = N.Jalr a b imm
 built O.Ecall a b c imm = N.Ecall
 built O.Ebreak a b c imm = N.Ebreak
 
-abbrev pub instructionOf : Parts → Instruction
-instructionOf p = built p.op p.a p.b p.c p.imm
+abbrev pub instruction_of : Parts → Instruction
+instruction_of p = built p.op p.a p.b p.c p.imm
 
-abbrev pub ofDivision : Division → Opcode
-ofDivision Dv.Div = O.Div
-ofDivision Dv.Divu = O.Divu
-ofDivision Dv.Rem = O.Rem
-ofDivision Dv.Remu = O.Remu
+abbrev pub of_division : Division → Opcode
+of_division Dv.Div = O.Div
+of_division Dv.Divu = O.Divu
+of_division Dv.Rem = O.Rem
+of_division Dv.Remu = O.Remu
 
-abbrev pub ofOperation : Operation → Opcode
-ofOperation Op.Mulh = O.Mulh
-ofOperation Op.And = O.And
-ofOperation Op.Or = O.Or
-ofOperation Op.Xor = O.Xor
-ofOperation Op.Sll = O.Sll
-ofOperation Op.Srl = O.Srl
-ofOperation Op.Sra = O.Sra
-ofOperation Op.Slt = O.Slt
-ofOperation Op.Sltu = O.Sltu
-ofOperation Op.Sge = O.Sge
-ofOperation Op.Sgeu = O.Sgeu
-ofOperation Op.Seq = O.Seq
-ofOperation Op.Sne = O.Sne
+abbrev pub of_operation : Operation → Opcode
+of_operation Op.Mulh = O.Mulh
+of_operation Op.And = O.And
+of_operation Op.Or = O.Or
+of_operation Op.Xor = O.Xor
+of_operation Op.Sll = O.Sll
+of_operation Op.Srl = O.Srl
+of_operation Op.Sra = O.Sra
+of_operation Op.Slt = O.Slt
+of_operation Op.Sltu = O.Sltu
+of_operation Op.Sge = O.Sge
+of_operation Op.Sgeu = O.Sgeu
+of_operation Op.Seq = O.Seq
+of_operation Op.Sne = O.Sne
 
-abbrev pub ofImmOperation : ImmOperation → Opcode
-ofImmOperation Im.Andi = O.Andi
-ofImmOperation Im.Ori = O.Ori
-ofImmOperation Im.Xori = O.Xori
-ofImmOperation Im.Slli = O.Slli
-ofImmOperation Im.Srli = O.Srli
-ofImmOperation Im.Srai = O.Srai
+abbrev pub of_imm_operation : ImmOperation → Opcode
+of_imm_operation Im.Andi = O.Andi
+of_imm_operation Im.Ori = O.Ori
+of_imm_operation Im.Xori = O.Xori
+of_imm_operation Im.Slli = O.Slli
+of_imm_operation Im.Srli = O.Srli
+of_imm_operation Im.Srai = O.Srai
 
-abbrev pub ofMove : MoveKind → Opcode
-ofMove Mv.Cmov = O.Cmov
-ofMove Mv.Cmovz = O.Cmovz
-ofMove Mv.Cmovnz = O.Cmovnz
+abbrev pub of_move : MoveKind → Opcode
+of_move Mv.Cmov = O.Cmov
+of_move Mv.Cmovz = O.Cmovz
+of_move Mv.Cmovnz = O.Cmovnz
 
-abbrev pub ofLoad : LoadKind → Opcode
-ofLoad Ld.Lb = O.Lb
-ofLoad Ld.Lbu = O.Lbu
-ofLoad Ld.Lh = O.Lh
-ofLoad Ld.Lhu = O.Lhu
-ofLoad Ld.Lw = O.Lw
-ofLoad Ld.Ld = O.Ld
+abbrev pub of_load : LoadKind → Opcode
+of_load Ld.Lb = O.Lb
+of_load Ld.Lbu = O.Lbu
+of_load Ld.Lh = O.Lh
+of_load Ld.Lhu = O.Lhu
+of_load Ld.Lw = O.Lw
+of_load Ld.Ld = O.Ld
 
-abbrev pub ofStore : StoreKind → Opcode
-ofStore St.Sb = O.Sb
-ofStore St.Sh = O.Sh
-ofStore St.Sw = O.Sw
-ofStore St.Sd = O.Sd
+abbrev pub of_store : StoreKind → Opcode
+of_store St.Sb = O.Sb
+of_store St.Sh = O.Sh
+of_store St.Sw = O.Sw
+of_store St.Sd = O.Sd
 
-abbrev pub ofBranch : BranchKind → Opcode
-ofBranch Br.Beq = O.Beq
-ofBranch Br.Bne = O.Bne
-ofBranch Br.Blt = O.Blt
-ofBranch Br.Bge = O.Bge
-ofBranch Br.Bltu = O.Bltu
-ofBranch Br.Bgeu = O.Bgeu
+abbrev pub of_branch : BranchKind → Opcode
+of_branch Br.Beq = O.Beq
+of_branch Br.Bne = O.Bne
+of_branch Br.Blt = O.Blt
+of_branch Br.Bge = O.Bge
+of_branch Br.Bltu = O.Bltu
+of_branch Br.Bgeu = O.Bgeu
 
 -- 0 stands for the operands that an instruction lacks
 abbrev pub three : Opcode → ℕ → ℕ → ℕ → Parts
@@ -144,13 +144,13 @@ parts_of (N.Add rd rs1 rs2) = three O.Add rd rs1 rs2
 parts_of (N.Sub rd rs1 rs2) = three O.Sub rd rs1 rs2
 parts_of (N.Addi rd rs1 imm) = two O.Addi rd rs1 imm
 parts_of (N.Mul rd rs1 rs2) = three O.Mul rd rs1 rs2
-parts_of (N.Divide op rd rs1 rs2) = three (ofDivision op) rd rs1 rs2
-parts_of (N.Op op rd rs1 rs2) = three (ofOperation op) rd rs1 rs2
-parts_of (N.OpImm op rd rs1 imm) = two (ofImmOperation op) rd rs1 imm
-parts_of (N.Move op rd rs1 rs2) = three (ofMove op) rd rs1 rs2
-parts_of (N.Load op rd rs1 imm) = two (ofLoad op) rd rs1 imm
-parts_of (N.Store op rs1 rs2 imm) = two (ofStore op) rs1 rs2 imm
-parts_of (N.Branch op rs1 rs2 imm) = two (ofBranch op) rs1 rs2 imm
+parts_of (N.Divide op rd rs1 rs2) = three (of_division op) rd rs1 rs2
+parts_of (N.Op op rd rs1 rs2) = three (of_operation op) rd rs1 rs2
+parts_of (N.OpImm op rd rs1 imm) = two (of_imm_operation op) rd rs1 imm
+parts_of (N.Move op rd rs1 rs2) = three (of_move op) rd rs1 rs2
+parts_of (N.Load op rd rs1 imm) = two (of_load op) rd rs1 imm
+parts_of (N.Store op rs1 rs2 imm) = two (of_store op) rs1 rs2 imm
+parts_of (N.Branch op rs1 rs2 imm) = two (of_branch op) rs1 rs2 imm
 parts_of (N.Jal rd imm) = two O.Jal rd 0 imm
 parts_of (N.Jalr rd rs1 imm) = two O.Jalr rd rs1 imm
 parts_of N.Ecall = three O.Ecall 0 0 0

@@ -1,7 +1,7 @@
 // An instruction taken apart into its opcode and operands, and joined again.
 ghost use Rattle.std.specs.Prelude.{◌≡◌};
-ghost use Rattle.instruction.specs.Operands.{instructionOf, parts_of, three, two, ofDivision, ofOperation, ofImmOperation, ofMove, ofLoad, ofStore, ofBranch};
-ghost use Rattle.instruction.specs.Kinds.{divisionOf, operationOf, immOperationOf, moveKindOf, loadKindOf, storeKindOf, branchKindOf};
+ghost use Rattle.instruction.specs.Operands.{instruction_of, parts_of, three, two, of_division, of_operation, of_imm_operation, of_move, of_load, of_store, of_branch};
+ghost use Rattle.instruction.specs.Kinds.{division_of, operation_of, imm_operation_of, move_kind_of, load_kind_of, store_kind_of, branch_kind_of};
 
 use super::{
     BranchKind, Division, ImmOperation, Instruction, LoadKind, MoveKind, Operation, Parts,
@@ -10,7 +10,7 @@ use super::{
 use opcode::Opcode;
 
 fn division(op: Opcode) -> Division
-    ensures { result ≡ divisionOf op }
+    ensures { result ≡ division_of op }
 {
     match op {
         Opcode::Divu => Division::Divu,
@@ -32,7 +32,7 @@ fn divide(op: Division, p: Parts) -> Instruction
 }
 
 fn operation(op: Opcode) -> Operation
-    ensures { result ≡ operationOf op }
+    ensures { result ≡ operation_of op }
 {
     match op {
         Opcode::And => Operation::And,
@@ -63,7 +63,7 @@ fn operate(op: Operation, p: Parts) -> Instruction
 }
 
 fn imm_operation(op: Opcode) -> ImmOperation
-    ensures { result ≡ immOperationOf op }
+    ensures { result ≡ imm_operation_of op }
 {
     match op {
         Opcode::Ori => ImmOperation::Ori,
@@ -87,7 +87,7 @@ fn operate_imm(op: ImmOperation, p: Parts) -> Instruction
 }
 
 fn move_kind(op: Opcode) -> MoveKind
-    ensures { result ≡ moveKindOf op }
+    ensures { result ≡ move_kind_of op }
 {
     match op {
         Opcode::Cmovz => MoveKind::Cmovz,
@@ -108,7 +108,7 @@ fn move_if(op: MoveKind, p: Parts) -> Instruction
 }
 
 fn load_kind(op: Opcode) -> LoadKind
-    ensures { result ≡ loadKindOf op }
+    ensures { result ≡ load_kind_of op }
 {
     match op {
         Opcode::Lbu => LoadKind::Lbu,
@@ -132,7 +132,7 @@ fn load(op: LoadKind, p: Parts) -> Instruction
 }
 
 fn store_kind(op: Opcode) -> StoreKind
-    ensures { result ≡ storeKindOf op }
+    ensures { result ≡ store_kind_of op }
 {
     match op {
         Opcode::Sh => StoreKind::Sh,
@@ -154,7 +154,7 @@ fn store(op: StoreKind, p: Parts) -> Instruction
 }
 
 fn branch_kind(op: Opcode) -> BranchKind
-    ensures { result ≡ branchKindOf op }
+    ensures { result ≡ branch_kind_of op }
 {
     match op {
         Opcode::Bne => BranchKind::Bne,
@@ -179,7 +179,7 @@ fn branch(op: BranchKind, p: Parts) -> Instruction
 
 // The operands that the opcode lacks are ignored.
 pub fn instruction_of(p: Parts) -> Instruction
-    ensures { result ≡ instructionOf p }
+    ensures { result ≡ instruction_of p }
 {
     let op = p.op;
     match op {
@@ -230,7 +230,7 @@ pub fn instruction_of(p: Parts) -> Instruction
 }
 
 fn of_division(op: Division) -> Opcode
-    ensures { result ≡ ofDivision op }
+    ensures { result ≡ of_division op }
 {
     match op {
         Division::Div => Opcode::Div,
@@ -241,7 +241,7 @@ fn of_division(op: Division) -> Opcode
 }
 
 fn of_operation(op: Operation) -> Opcode
-    ensures { result ≡ ofOperation op }
+    ensures { result ≡ of_operation op }
 {
     match op {
         Operation::Mulh => Opcode::Mulh,
@@ -261,7 +261,7 @@ fn of_operation(op: Operation) -> Opcode
 }
 
 fn of_imm_operation(op: ImmOperation) -> Opcode
-    ensures { result ≡ ofImmOperation op }
+    ensures { result ≡ of_imm_operation op }
 {
     match op {
         ImmOperation::Andi => Opcode::Andi,
@@ -274,7 +274,7 @@ fn of_imm_operation(op: ImmOperation) -> Opcode
 }
 
 fn of_move(op: MoveKind) -> Opcode
-    ensures { result ≡ ofMove op }
+    ensures { result ≡ of_move op }
 {
     match op {
         MoveKind::Cmov => Opcode::Cmov,
@@ -284,7 +284,7 @@ fn of_move(op: MoveKind) -> Opcode
 }
 
 fn of_load(op: LoadKind) -> Opcode
-    ensures { result ≡ ofLoad op }
+    ensures { result ≡ of_load op }
 {
     match op {
         LoadKind::Lb => Opcode::Lb,
@@ -297,7 +297,7 @@ fn of_load(op: LoadKind) -> Opcode
 }
 
 fn of_store(op: StoreKind) -> Opcode
-    ensures { result ≡ ofStore op }
+    ensures { result ≡ of_store op }
 {
     match op {
         StoreKind::Sb => Opcode::Sb,
@@ -308,7 +308,7 @@ fn of_store(op: StoreKind) -> Opcode
 }
 
 fn of_branch(op: BranchKind) -> Opcode
-    ensures { result ≡ ofBranch op }
+    ensures { result ≡ of_branch op }
 {
     match op {
         BranchKind::Beq => Opcode::Beq,

@@ -5,23 +5,23 @@ use Prim.Native.Nat.{ℕ, ◌≤◌, ◌<◌}
 use native.Mathlib.Omega.{arith}
 use lib.Dec.{leb}
 use borrow.Author.Tests.{leb-true, lt-leb}
-use Rattle.labels.specs.Bytes.{isDigit, isLetter, isPart}
+use Rattle.labels.specs.Bytes.{is_digit, is_letter, is_part}
 use Rattle.labels.proofs.Spans.{both_true}
 
-pub digit_low : (b : ℕ) → isDigit b ≡ true → 48 ≤ b
+pub digit_low : (b : ℕ) → is_digit b ≡ true → 48 ≤ b
 digit_low b h = leb-true 48 b (both_true (leb 48 b) (leb b 57) h).0
 
-pub digit-high : (b : ℕ) → isDigit b ≡ true → b ≤ 57
+pub digit-high : (b : ℕ) → is_digit b ≡ true → b ≤ 57
 digit-high b h = leb-true b 57 (both_true (leb 48 b) (leb b 57) h).1
 
-pub digit-no-letter : (b : ℕ) → isDigit b ≡ true → isLetter b ≡ false
+pub digit-no-letter : (b : ℕ) → is_digit b ≡ true → is_letter b ≡ false
 digit-no-letter b h = let u = digit-high b h in simp (lt-leb 65 b (omega arith), lt-leb 97 b (omega arith))
 
 pub or_cases : (a b : Bool) → a || b ≡ true → (P : Type 0) → (a ≡ true → P) → (b ≡ true → P) → P
 or_cases true b h P f g = f refl
 or_cases false b h P f g = g h
 
-pub letter-low : (b : ℕ) → isLetter b ≡ true → 65 ≤ b
+pub letter-low : (b : ℕ) → is_letter b ≡ true → 65 ≤ b
 letter-low b h = or_cases (leb 65 b && leb b 90) (leb 97 b && leb b 122) h (65 ≤ b)
     (λ k. leb-true 65 b (both_true (leb 65 b) (leb b 90) k).0)
     (λ k. let l : 97 ≤ b = leb-true 97 b (both_true (leb 97 b) (leb b 122) k).0 in omega arith)
@@ -33,8 +33,8 @@ pub or-false : (a b : Bool) → a || b ≡ false → (a ≡ false) × (b ≡ fal
 or-false true b h = absurd (let z : ◌≡◌ {A = ℕ} 0 1 = cc in omega arith)
 or-false false b h = (refl, h)
 
-pub part-bounds : (b : ℕ) → isPart b ≡ true → (1 ≤ b) × (b < 256)
-part-bounds b h = or_cases (isLetter b) (isDigit b) h ((1 ≤ b) × (b < 256))
+pub part-bounds : (b : ℕ) → is_part b ≡ true → (1 ≤ b) × (b < 256)
+part-bounds b h = or_cases (is_letter b) (is_digit b) h ((1 ≤ b) × (b < 256))
     (λ k. or_cases (leb 65 b && leb b 90) (leb 97 b && leb b 122) k ((1 ≤ b) × (b < 256)) (by 65 90 (omega arith) (omega arith)) (by 97 122 (omega arith) (omega arith)))
     (by 48 57 (omega arith) (omega arith))
   where

@@ -8,7 +8,7 @@ use native.Mathlib.Omega.{arith}
 use lib.Dec.{eqb, leb, ltb}
 use borrow.Author.Tests.{eq-eqb, ne_eqb, eqb-true, eqb-false, leb-true, leb-false, lt-ltb, le-ltb, ltb-true}
 use Rattle.labels.specs.Bytes.{key_of}
-use Rattle.labels.specs.Table.{slots_of, key_at, home_of, next_of, holdsName, searchFrom, searchIn}
+use Rattle.labels.specs.Table.{slots_of, key_at, home_of, next_of, holds_name, search_from, search_in}
 use Rattle.labels.specs.declared.table.Slot.TheVariants.{Held, Free, Full}
 use Rattle.labels.proofs.Searches.{next-below, home_below}
 use Rattle.labels.proofs.Noting.{Changed}
@@ -83,15 +83,15 @@ module _ (slots k : ℕ) (b : k < slots) where
       go false e = let l = leb-false k j e in (j + slots - k, (omega arith, inr (omega arith)))
 
 module _ (text table name : List ℕ) (k : ℕ) (b : k < slots_of table) where
-  seen : (left t x : ℕ) → t + left ≡ slots_of table → x < slots_of table → At (slots_of table) k b t x → searchFrom text table name left x ≡ Full
+  seen : (left t x : ℕ) → t + left ≡ slots_of table → x < slots_of table → At (slots_of table) k b t x → search_from text table name left x ≡ Full
       → (u j : ℕ) → t ≤ u → u < slots_of table → At (slots_of table) k b u j → j < slots_of table → key_at table j ≡ 0 → ⊥
-  unfolding searchFrom
+  unfolding search_from
   seen zero t x e l a f u j h m q i z = omega arith
-  seen (suc left) t x e l a f u j h m q i z = go (eqb (key_at table x) 0) (holdsName text table name x) (eqb u t) refl refl f
+  seen (suc left) t x e l a f u j h m q i z = go (eqb (key_at table x) 0) (holds_name text table name x) (eqb u t) refl refl f
       (λ f' h'. seen left (t + 1) (next_of (slots_of table) x) (omega arith) (next-below (slots_of table) x l) (at_next (slots_of table) k b t x (omega arith) l a) f' u j h' m q i z)
     where
-      go : (c d s : Bool) → eqb (key_at table x) 0 ≡ c → eqb u t ≡ s → cond c (Free x) (cond d (Held x) (searchFrom text table name left (next_of (slots_of table) x))) ≡ Full
-          → (searchFrom text table name left (next_of (slots_of table) x) ≡ Full → t + 1 ≤ u → ⊥) → ⊥
+      go : (c d s : Bool) → eqb (key_at table x) 0 ≡ c → eqb u t ≡ s → cond c (Free x) (cond d (Held x) (search_from text table name left (next_of (slots_of table) x))) ≡ Full
+          → (search_from text table name left (next_of (slots_of table) x) ≡ Full → t + 1 ≤ u → ⊥) → ⊥
       go true d s ec es f rest = let w : ◌≡◌ {A = ℕ} 0 1 = cc in omega arith
       go false true s ec es f rest = let w : ◌≡◌ {A = ℕ} 0 1 = cc in omega arith
       go false false true ec es f rest =
@@ -99,8 +99,8 @@ module _ (text table name : List ℕ) (k : ℕ) (b : k < slots_of table) where
           eqb-false (key_at table x) 0 ec (ap (key_at table) (at_one (slots_of table) k b t x j l i a (subst (λ (n : ℕ). At (slots_of table) k b n j) r q)) ∙ z)
       go false false false ec es f rest = let n = eqb-false u t es in rest f (omega arith)
 
-pub full-all : (text table name : List ℕ) → searchIn text table name ≡ Full → (j : ℕ) → j < slots_of table → key_at table j ≡ 0 → ⊥
-unfolding searchIn
+pub full-all : (text table name : List ℕ) → search_in text table name ≡ Full → (j : ℕ) → j < slots_of table → key_at table j ≡ 0 → ⊥
+unfolding search_in
 full-all text table name f j h =
     let b = home_below (key_of name) (slots_of table) (omega arith) in
     let k = home_of (key_of name) (slots_of table) in

@@ -11,27 +11,27 @@ use lib.Seq.{sets}
 use borrow.Author.Tests.{eq-eqb, ne_eqb, eqb-false, ltb-false, lt-ltb, le-ltb}
 use lib.Dec.{eqb, ltb}
 use Rattle.labels.specs.Bytes.{key_of}
-use Rattle.labels.specs.Table.{slots_of, key_at, spread_of, home_of, next_of, holdsName, searchFrom, searchIn}
+use Rattle.labels.specs.Table.{slots_of, key_at, spread_of, home_of, next_of, holds_name, search_from, search_in}
 use Rattle.labels.specs.declared.table.Slot.{Slot}
 use Rattle.labels.specs.declared.table.Slot.TheVariants.{Held, Free, Full}
 
 module _ (text table name : List ℕ) (k : ℕ) where
-  search-turn : (left : ℕ) → (left ≡ 0 → ⊥) → searchFrom text table name left k
-      ≡ cond (eqb (key_at table k) 0) (Free k) (cond (holdsName text table name k) (Held k) (searchFrom text table name (left - 1) (next_of (slots_of table) k)))
-  unfolding searchFrom
+  search-turn : (left : ℕ) → (left ≡ 0 → ⊥) → search_from text table name left k
+      ≡ cond (eqb (key_at table k) 0) (Free k) (cond (holds_name text table name k) (Held k) (search_from text table name (left - 1) (next_of (slots_of table) k)))
+  unfolding search_from
   search-turn zero n = absurd (n refl)
   search-turn (suc left) n =
-      ap (λ (l : ℕ). cond (eqb (key_at table k) 0) (Free k) (cond (holdsName text table name k) (Held k) (searchFrom text table name l (next_of (slots_of table) k))))
+      ap (λ (l : ℕ). cond (eqb (key_at table k) 0) (Free k) (cond (holds_name text table name k) (Held k) (search_from text table name l (next_of (slots_of table) k))))
       (sym (sub-one (suc left)))
 
-  pub search-free : (left : ℕ) → (left ≡ 0 → ⊥) → key_at table k ≡ 0 → searchFrom text table name left k ≡ Free k
+  pub search-free : (left : ℕ) → (left ≡ 0 → ⊥) → key_at table k ≡ 0 → search_from text table name left k ≡ Free k
   search-free left n e = search-turn left n ∙ simp (eq-eqb _ _ e)
 
-  pub search-held : (left : ℕ) → (left ≡ 0 → ⊥) → (key_at table k ≡ 0 → ⊥) → holdsName text table name k ≡ true → searchFrom text table name left k ≡ Held k
+  pub search-held : (left : ℕ) → (left ≡ 0 → ⊥) → (key_at table k ≡ 0 → ⊥) → holds_name text table name k ≡ true → search_from text table name left k ≡ Held k
   search-held left n e h = search-turn left n ∙ simp (ne_eqb _ _ e, h)
 
-  pub search-on : (left : ℕ) → (left ≡ 0 → ⊥) → (key_at table k ≡ 0 → ⊥) → holdsName text table name k ≡ false
-      → searchFrom text table name left k ≡ searchFrom text table name (left - 1) (next_of (slots_of table) k)
+  pub search-on : (left : ℕ) → (left ≡ 0 → ⊥) → (key_at table k ≡ 0 → ⊥) → holds_name text table name k ≡ false
+      → search_from text table name left k ≡ search_from text table name (left - 1) (next_of (slots_of table) k)
   search-on left n e h = search-turn left n ∙ simp (ne_eqb _ _ e, h)
 
 -- ---- a slot that a search ends at is one of the table's
@@ -66,35 +66,35 @@ next-below slots k h = go (eqb (k + 1) slots) refl
     go true e = omega arith
     go false e = let n = eqb-false (k + 1) slots e in omega arith
 
-abbrev slotBelow : ℕ → Slot → Type 0
-slotBelow n (Held k) = k < n
-slotBelow n (Free k) = k < n
-slotBelow n Full = Unit {0}
+abbrev slot_below : ℕ → Slot → Type 0
+slot_below n (Held k) = k < n
+slot_below n (Free k) = k < n
+slot_below n Full = Unit {0}
 
 module _ (text table name : List ℕ) where
-  from-below : (left k : ℕ) → ((left ≡ 0 → ⊥) → k < slots_of table) → slotBelow (slots_of table) (searchFrom text table name left k)
-  unfolding searchFrom
+  from-below : (left k : ℕ) → ((left ≡ 0 → ⊥) → k < slots_of table) → slot_below (slots_of table) (search_from text table name left k)
+  unfolding search_from
   from-below zero k h = tt
-  from-below (suc left) k h = go (eqb (key_at table k) 0) (holdsName text table name k) (from-below left (next_of (slots_of table) k) (λ _. next-below (slots_of table) k below))
+  from-below (suc left) k h = go (eqb (key_at table k) 0) (holds_name text table name k) (from-below left (next_of (slots_of table) k) (λ _. next-below (slots_of table) k below))
     where
       below : k < slots_of table
       below = h (λ z. omega arith)
 
-      go : (a b : Bool) → slotBelow (slots_of table) (searchFrom text table name left (next_of (slots_of table) k))
-          → slotBelow (slots_of table) (cond a (Free k) (cond b (Held k) (searchFrom text table name left (next_of (slots_of table) k))))
+      go : (a b : Bool) → slot_below (slots_of table) (search_from text table name left (next_of (slots_of table) k))
+          → slot_below (slots_of table) (cond a (Free k) (cond b (Held k) (search_from text table name left (next_of (slots_of table) k))))
       go true b r = below
       go false true r = below
       go false false r = r
 
-  search-below : slotBelow (slots_of table) (searchIn text table name)
-  unfolding searchIn
+  search-below : slot_below (slots_of table) (search_in text table name)
+  unfolding search_in
   search-below = from-below (slots_of table) (home_of (key_of name) (slots_of table)) (λ n. home_below (key_of name) (slots_of table) (omega (arith, n)))
 
-  pub held_below : (k : ℕ) → searchIn text table name ≡ Held k → k < slots_of table
-  held_below k e = subst (slotBelow (slots_of table)) e search-below
+  pub held_below : (k : ℕ) → search_in text table name ≡ Held k → k < slots_of table
+  held_below k e = subst (slot_below (slots_of table)) e search-below
 
-  pub free-below : (k : ℕ) → searchIn text table name ≡ Free k → k < slots_of table
-  free-below k e = subst (slotBelow (slots_of table)) e search-below
+  pub free-below : (k : ℕ) → search_in text table name ≡ Free k → k < slots_of table
+  free-below k e = subst (slot_below (slots_of table)) e search-below
 
 pub three-sets : (l : List ℕ) (i a b c : ℕ) → set (set (set l i a) (i + 1) b) (i + 2) c ≡ sets l i (a ∷ (b ∷ (c ∷ [])))
 three-sets l i a b c = ap (λ (n : ℕ). set (set (set l i a) n b) (i + 2) c) (add-one i) ∙ ap (λ (n : ℕ). set (set (set l i a) (suc i) b) n c) (add-two i)

@@ -7,8 +7,8 @@ use native.Mathlib.Numerals.{add-one}
 use native.Mathlib.Omega.{arith}
 use borrow.Author.Tests.{eqb-true}
 use lib.ListN.{length, get_or, drop}
-use Rattle.labels.specs.Bytes.{isSpace, every, spaces, head_of}
-use Rattle.labels.specs.Reading.{tailOf, run_of, past, skip}
+use Rattle.labels.specs.Bytes.{is_space, every, spaces, head_of}
+use Rattle.labels.specs.Reading.{tail_of, run_of, past, skip}
 
 pub head-drop : (s : List ℕ) (n : ℕ) → head_of (drop n s) ≡ get_or s n 0
 unfolding head_of
@@ -17,14 +17,14 @@ head-drop [] (suc n) = refl
 head-drop (b ∷ s) zero = refl
 head-drop (b ∷ s) (suc n) = head-drop s n
 
-tail-drop-suc : (s : List ℕ) (n : ℕ) → tailOf (drop n s) ≡ drop (suc n) s
-unfolding tailOf
+tail-drop-suc : (s : List ℕ) (n : ℕ) → tail_of (drop n s) ≡ drop (suc n) s
+unfolding tail_of
 tail-drop-suc [] zero = refl
 tail-drop-suc [] (suc n) = refl
 tail-drop-suc (b ∷ s) zero = refl
 tail-drop-suc (b ∷ s) (suc n) = tail-drop-suc s n
 
-pub tail-drop : (s : List ℕ) (n : ℕ) → tailOf (drop n s) ≡ drop (n + 1) s
+pub tail-drop : (s : List ℕ) (n : ℕ) → tail_of (drop n s) ≡ drop (n + 1) s
 tail-drop s n = tail-drop-suc s n ∙ ap (λ (k : ℕ). drop k s) (sym (add-one n))
 
 -- a byte that is not 0 lies within the text
@@ -64,8 +64,8 @@ module _ (p : ℕ → Bool) where
   past_stop [] h = refl
   past_stop (b ∷ t) h = simp h
 
-  pub past-on : (t : List ℕ) → p (head_of t) ≡ true → past p t ≡ past p (tailOf t)
-  unfolding past head_of tailOf
+  pub past-on : (t : List ℕ) → p (head_of t) ≡ true → past p t ≡ past p (tail_of t)
+  unfolding past head_of tail_of
   past-on [] h = refl
   past-on (b ∷ t) h = simp h
 
@@ -74,8 +74,8 @@ module _ (p : ℕ → Bool) where
   run-stop [] h = refl
   run-stop (b ∷ t) h = simp h
 
-  pub run_on : (t : List ℕ) → p 0 ≡ false → p (head_of t) ≡ true → run_of p t ≡ head_of t ∷ run_of p (tailOf t)
-  unfolding run_of head_of tailOf
+  pub run_on : (t : List ℕ) → p 0 ≡ false → p (head_of t) ≡ true → run_of p t ≡ head_of t ∷ run_of p (tail_of t)
+  unfolding run_of head_of tail_of
   run_on [] z h = absurd (let q : false ≡ true = sym z ∙ h in let n : ◌≡◌ {A = ℕ} 0 1 = cc in omega arith)
   run_on (b ∷ t) z h = simp h
 
@@ -98,16 +98,16 @@ module _ (p : ℕ → Bool) where
   run-append [] t h e = run-stop t e
   run-append (b ∷ a) t h e = let k = both_true (p b) (every p a) h in rw (k.0, run_of) (ap (b ∷◌) (run-append a t k.1 e))
 
-all-spaces : (n : ℕ) → every isSpace (spaces n) ≡ true
+all-spaces : (n : ℕ) → every is_space (spaces n) ≡ true
 unfolding every
 all-spaces zero = refl
 all-spaces (suc n) = all-spaces n
 
 pub skip-spaces : (n : ℕ) (t : List ℕ) → skip (spaces n ++ t) ≡ skip t
-skip-spaces n t = past-append isSpace (spaces n) t (all-spaces n)
+skip-spaces n t = past-append is_space (spaces n) t (all-spaces n)
 
 -- what is skipped is spaces
-pub are-spaces : (t : List ℕ) → every isSpace t ≡ true → t ≡ spaces (length t)
+pub are-spaces : (t : List ℕ) → every is_space t ≡ true → t ≡ spaces (length t)
 unfolding every
 are-spaces [] h = refl
 are-spaces (b ∷ t) h = let k = both_true _ _ h in

@@ -8,9 +8,9 @@ use lib.Dec.{leb}
 use lib.Seq.{drop-drop}
 use lib.ListN.{length, drop, length-drop, length-append, get_or-eq_default}
 use borrow.Author.Tests.{eq-eqb, ne_eqb, leb-true, leb-false}
-use Rattle.labels.specs.Bytes.{isPart, head_of, eqBytes, keyFrom, key_of}
-use Rattle.labels.specs.Reading.{tailOf, run_of, past, name_at, Passed}
-use Rattle.labels.specs.Table.{nameFrom}
+use Rattle.labels.specs.Bytes.{is_part, head_of, eq_bytes, key_from, key_of}
+use Rattle.labels.specs.Reading.{tail_of, run_of, past, name_at, Passed}
+use Rattle.labels.specs.Table.{name_from}
 use Rattle.labels.proofs.Spans.{head-drop, tail-drop, inside, past_stop, past-on, run_past, run-stop, run_on}
 
 pub head-end : (s : List ℕ) (n : ℕ) → length s ≤ n → 0 ≡ head_of (drop n s)
@@ -76,35 +76,35 @@ module _ (p : ℕ → Bool) (s : List ℕ) (at r : ℕ) where
       }
 
 -- ---- a name that is read
-key-on : (s : List ℕ) (v n : ℕ) → isPart (head_of (drop n s)) ≡ true → keyFrom v (name_at s n) ≡ keyFrom (v % 2 ^ 56 * 256 + head_of (drop n s)) (name_at s (n + 1))
-unfolding keyFrom
-key-on s v n h = ap (keyFrom v) (run_on isPart (drop n s) refl h) ∙ ap (λ (t : List ℕ). keyFrom (v % 2 ^ 56 * 256 + head_of (drop n s)) (run_of isPart t)) (tail-drop s n)
+key-on : (s : List ℕ) (v n : ℕ) → is_part (head_of (drop n s)) ≡ true → key_from v (name_at s n) ≡ key_from (v % 2 ^ 56 * 256 + head_of (drop n s)) (name_at s (n + 1))
+unfolding key_from
+key-on s v n h = ap (key_from v) (run_on is_part (drop n s) refl h) ∙ ap (λ (t : List ℕ). key_from (v % 2 ^ 56 * 256 + head_of (drop n s)) (run_of is_part t)) (tail-drop s n)
 
-key-end : (s : List ℕ) (v n : ℕ) → isPart (head_of (drop n s)) ≡ false → keyFrom v (name_at s n) ≡ v
-unfolding keyFrom
-key-end s v n h = ap (keyFrom v) (run-stop isPart (drop n s) h)
+key-end : (s : List ℕ) (v n : ℕ) → is_part (head_of (drop n s)) ≡ false → key_from v (name_at s n) ≡ v
+unfolding key_from
+key-end s v n h = ap (key_from v) (run-stop is_part (drop n s) h)
 
 pub record NameRead (s : List ℕ) (at v n : ℕ) : Type 0 where
-  pub key : key_of (name_at s at) ≡ keyFrom v (name_at s n)
-  pub to : Going isPart s at n
+  pub key : key_of (name_at s at) ≡ key_from v (name_at s n)
+  pub to : Going is_part s at n
 
 module _ (s : List ℕ) (at : ℕ) where
   pub name-starts : NameRead s at 0 at
-  name-starts = record { key = refl; to = starts isPart s at }
+  name-starts = record { key = refl; to = starts is_part s at }
 
   module _ (v n : ℕ) (g : NameRead s at v n) where
-    pub name-on : (b : ℕ) → b ≡ head_of (drop n s) → isPart b ≡ true → NameRead s at (v % 2 ^ 56 * 256 + b) (n + 1)
+    pub name-on : (b : ℕ) → b ≡ head_of (drop n s) → is_part b ≡ true → NameRead s at (v % 2 ^ 56 * 256 + b) (n + 1)
     name-on b e h =
-        let i = ap isPart (sym e) ∙ h in
+        let i = ap is_part (sym e) ∙ h in
         record {
-          key = g.key ∙ key-on s v n i ∙ ap (λ (c : ℕ). keyFrom (v % 2 ^ 56 * 256 + c) (name_at s (n + 1))) (sym e);
-          to = goes_on isPart s at n g.to refl i;
+          key = g.key ∙ key-on s v n i ∙ ap (λ (c : ℕ). key_from (v % 2 ^ 56 * 256 + c) (name_at s (n + 1))) (sym e);
+          to = goes_on is_part s at n g.to refl i;
         }
 
-    pub name-ends : (b : ℕ) → b ≡ head_of (drop n s) → isPart b ≡ false → record { key = v; after = n } ≡ nameFrom s at
+    pub name-ends : (b : ℕ) → b ≡ head_of (drop n s) → is_part b ≡ false → record { key = v; after = n } ≡ name_from s at
     name-ends b e h =
-        let i = ap isPart (sym e) ∙ h in
-        cc (g.key ∙ key-end s v n i, passed_over isPart s at n (stops isPart s at n g.to i))
+        let i = ap is_part (sym e) ∙ h in
+        cc (g.key ∙ key-end s v n i, passed_over is_part s at n (stops is_part s at n g.to i))
 
 -- ---- names that are compared; how long the second one is is known
 run-some : (p : ℕ → Bool) (t : List ℕ) → (length (run_of p t) ≡ 0 → ⊥) → p (head_of t) ≡ true
@@ -121,46 +121,46 @@ run_none p t z n = go (p (head_of t)) refl
     go true e = absurd (let l = sym n ∙ ap length (run_on p t z e) in omega arith)
     go false e = refl
 
-names-end : (s t : List ℕ) → isPart (head_of t) ≡ false → eqBytes (run_of isPart s) (run_of isPart t) ≡ not (isPart (head_of s))
-unfolding eqBytes
-names-end s t h = ap (eqBytes (run_of isPart s)) (run-stop isPart t h) ∙ go (isPart (head_of s)) refl
+names-end : (s t : List ℕ) → is_part (head_of t) ≡ false → eq_bytes (run_of is_part s) (run_of is_part t) ≡ not (is_part (head_of s))
+unfolding eq_bytes
+names-end s t h = ap (eq_bytes (run_of is_part s)) (run-stop is_part t h) ∙ go (is_part (head_of s)) refl
   where
-    go : (c : Bool) → isPart (head_of s) ≡ c → eqBytes (run_of isPart s) [] ≡ not c
-    go true e = ap (λ (x : List ℕ). eqBytes x []) (run_on isPart s refl e)
-    go false e = ap (λ (x : List ℕ). eqBytes x []) (run-stop isPart s e)
+    go : (c : Bool) → is_part (head_of s) ≡ c → eq_bytes (run_of is_part s) [] ≡ not c
+    go true e = ap (λ (x : List ℕ). eq_bytes x []) (run_on is_part s refl e)
+    go false e = ap (λ (x : List ℕ). eq_bytes x []) (run-stop is_part s e)
 
-module _ (s t : List ℕ) (h : isPart (head_of t) ≡ true) where
-  names-differ : (head_of s ≡ head_of t → ⊥) → eqBytes (run_of isPart s) (run_of isPart t) ≡ false
-  unfolding eqBytes
-  names-differ n = ap (eqBytes (run_of isPart s)) (run_on isPart t refl h) ∙ go (isPart (head_of s)) refl
+module _ (s t : List ℕ) (h : is_part (head_of t) ≡ true) where
+  names-differ : (head_of s ≡ head_of t → ⊥) → eq_bytes (run_of is_part s) (run_of is_part t) ≡ false
+  unfolding eq_bytes
+  names-differ n = ap (eq_bytes (run_of is_part s)) (run_on is_part t refl h) ∙ go (is_part (head_of s)) refl
     where
-      go : (c : Bool) → isPart (head_of s) ≡ c → eqBytes (run_of isPart s) (head_of t ∷ run_of isPart (tailOf t)) ≡ false
-      go true e = ap (λ (x : List ℕ). eqBytes x (head_of t ∷ run_of isPart (tailOf t))) (run_on isPart s refl e) ∙ ap (◌&& eqBytes (run_of isPart (tailOf s)) (run_of isPart (tailOf t))) (ne_eqb (head_of s) (head_of t) n)
-      go false e = ap (λ (x : List ℕ). eqBytes x (head_of t ∷ run_of isPart (tailOf t))) (run-stop isPart s e)
+      go : (c : Bool) → is_part (head_of s) ≡ c → eq_bytes (run_of is_part s) (head_of t ∷ run_of is_part (tail_of t)) ≡ false
+      go true e = ap (λ (x : List ℕ). eq_bytes x (head_of t ∷ run_of is_part (tail_of t))) (run_on is_part s refl e) ∙ ap (◌&& eq_bytes (run_of is_part (tail_of s)) (run_of is_part (tail_of t))) (ne_eqb (head_of s) (head_of t) n)
+      go false e = ap (λ (x : List ℕ). eq_bytes x (head_of t ∷ run_of is_part (tail_of t))) (run-stop is_part s e)
 
-  names-on : head_of s ≡ head_of t → eqBytes (run_of isPart s) (run_of isPart t) ≡ eqBytes (run_of isPart (tailOf s)) (run_of isPart (tailOf t))
-  unfolding eqBytes
+  names-on : head_of s ≡ head_of t → eq_bytes (run_of is_part s) (run_of is_part t) ≡ eq_bytes (run_of is_part (tail_of s)) (run_of is_part (tail_of t))
+  unfolding eq_bytes
   names-on e =
-      ap (λ (x : List ℕ). eqBytes x (run_of isPart t)) (run_on isPart s refl (ap isPart e ∙ h))
-      ∙ ap (eqBytes (head_of s ∷ run_of isPart (tailOf s))) (run_on isPart t refl h)
-      ∙ ap (◌&& eqBytes (run_of isPart (tailOf s)) (run_of isPart (tailOf t))) (eq-eqb (head_of s) (head_of t) e)
+      ap (λ (x : List ℕ). eq_bytes x (run_of is_part t)) (run_on is_part s refl (ap is_part e ∙ h))
+      ∙ ap (eq_bytes (head_of s ∷ run_of is_part (tail_of s))) (run_on is_part t refl h)
+      ∙ ap (◌&& eq_bytes (run_of is_part (tail_of s)) (run_of is_part (tail_of t))) (eq-eqb (head_of s) (head_of t) e)
 
 pub record Compared (text : List ℕ) (p : ℕ) (s : List ℕ) (at after i j : ℕ) : Type 0 where
-  pub rest : eqBytes (name_at text p) (name_at s at) ≡ eqBytes (name_at text i) (name_at s j)
+  pub rest : eq_bytes (name_at text p) (name_at s at) ≡ eq_bytes (name_at text i) (name_at s j)
   pub to : after ≡ j + length (name_at s j)
 
 module _ (text : List ℕ) (p : ℕ) (s : List ℕ) (at after i j : ℕ) (g : Compared text p s at after i j) (a : ℕ) (e : a ≡ head_of (drop i text)) where
-  pub compared-all : j ≡ after → not (isPart a) ≡ eqBytes (name_at text p) (name_at s at)
-  compared-all h = ap (λ (b : ℕ). not (isPart b)) e ∙ sym (names-end (drop i text) (drop j s) (run_none isPart (drop j s) refl (omega (arith, g.to)))) ∙ sym g.rest
+  pub compared-all : j ≡ after → not (is_part a) ≡ eq_bytes (name_at text p) (name_at s at)
+  compared-all h = ap (λ (b : ℕ). not (is_part b)) e ∙ sym (names-end (drop i text) (drop j s) (run_none is_part (drop j s) refl (omega (arith, g.to)))) ∙ sym g.rest
 
   module _ (h : j ≡ after → ⊥) where
-    second-on : isPart (head_of (drop j s)) ≡ true
-    second-on = run-some isPart (drop j s) (λ z. h (omega (arith, g.to)))
+    second-on : is_part (head_of (drop j s)) ≡ true
+    second-on = run-some is_part (drop j s) (λ z. h (omega (arith, g.to)))
 
     pub second-inside : j < length s
-    second-inside = class-inside isPart s j refl second-on
+    second-inside = class-inside is_part s j refl second-on
 
-    pub compared-not : (b : ℕ) → b ≡ head_of (drop j s) → (a ≡ b → ⊥) → false ≡ eqBytes (name_at text p) (name_at s at)
+    pub compared-not : (b : ℕ) → b ≡ head_of (drop j s) → (a ≡ b → ⊥) → false ≡ eq_bytes (name_at text p) (name_at s at)
     compared-not b f n = sym (g.rest ∙ names-differ (drop i text) (drop j s) second-on (λ z. n (e ∙ z ∙ sym f)))
 
     module _ (b : ℕ) (f : b ≡ head_of (drop j s)) (q : a ≡ b) where
@@ -168,11 +168,11 @@ module _ (text : List ℕ) (p : ℕ) (s : List ℕ) (at after i j : ℕ) (g : Co
       alike = sym e ∙ q ∙ f
 
       pub first-inside : i < length text
-      first-inside = class-inside isPart text i refl (ap isPart alike ∙ second-on)
+      first-inside = class-inside is_part text i refl (ap is_part alike ∙ second-on)
 
       pub compared-on : Compared text p s at after (i + 1) (j + 1)
       compared-on =
           record {
             rest = g.rest ∙ names-on (drop i text) (drop j s) second-on alike ∙ cc (tail-drop text i, tail-drop s j);
-            to = let l = ap length (run_on isPart (drop j s) refl second-on) ∙ ap (λ (t : List ℕ). suc (length (run_of isPart t))) (tail-drop s j) in omega (arith, l, g.to);
+            to = let l = ap length (run_on is_part (drop j s) refl second-on) ∙ ap (λ (t : List ℕ). suc (length (run_of is_part t))) (tail-drop s j) in omega (arith, l, g.to);
           }

@@ -9,9 +9,9 @@ use native.Mathlib.Omega.{arith}
 use lib.Dec.{ltb}
 use lib.ListN.{length, get_or, set, drop, replicate, length-set}
 use lib.Seq.{sets, length-sets, get_or-set_same, get_or-set_other}
-use Rattle.labels.specs.Bytes.{isLetter, isPart, every, head_of, eqBytes, keyFrom, key_of}
-use Rattle.labels.specs.Reading.{tailOf, run_of, name_at}
-use Rattle.labels.specs.Table.{slots_of, placeAt, key_at, index_at, searchIn, index_by, indexIn}
+use Rattle.labels.specs.Bytes.{is_letter, is_part, every, head_of, eq_bytes, key_from, key_of}
+use Rattle.labels.specs.Reading.{tail_of, run_of, name_at}
+use Rattle.labels.specs.Table.{slots_of, place_at, key_at, index_at, search_in, index_by, index_in}
 use Rattle.labels.specs.declared.table.Slot.{Slot}
 use Rattle.labels.specs.declared.table.Slot.TheVariants.{Held, Free, Full}
 use Rattle.labels.proofs.Spans.{both_true, run_on, every-run}
@@ -21,18 +21,18 @@ use Rattle.labels.proofs.Noting.{Changed, held-holds, free-empty, Findable, new-
 use Rattle.labels.proofs.Rooms.{taken, taken-all, taken_none, taken_more, full-all}
 
 -- ---- a name's key is not 0
-key-grows : (v : ℕ) (t : List ℕ) → zero < v → every isPart t ≡ true → zero < keyFrom v t
-unfolding keyFrom every
+key-grows : (v : ℕ) (t : List ℕ) → zero < v → every is_part t ≡ true → zero < key_from v t
+unfolding key_from every
 key-grows v [] h e = h
-key-grows v (b ∷ t) h e = let k = both_true (isPart b) (every isPart t) e in key-grows (v % 2 ^ 56 * 256 + b) t (let p = part-bounds b k.0 in omega arith) k.1
+key-grows v (b ∷ t) h e = let k = both_true (is_part b) (every is_part t) e in key-grows (v % 2 ^ 56 * 256 + b) t (let p = part-bounds b k.0 in omega arith) k.1
 
-pub named-key : (s : List ℕ) (at : ℕ) → isLetter (head_of (drop at s)) ≡ true → key_of (name_at s at) ≡ 0 → ⊥
-unfolding keyFrom every
+pub named-key : (s : List ℕ) (at : ℕ) → is_letter (head_of (drop at s)) ≡ true → key_of (name_at s at) ≡ 0 → ⊥
+unfolding key_from every
 named-key s at h z =
-    let p = or-true (isLetter (head_of (drop at s))) _ h in
-    let r = run_on isPart (drop at s) refl p in
-    let k = both_true (isPart (head_of (drop at s))) (every isPart (run_of isPart (tailOf (drop at s)))) (ap (every isPart) (sym r) ∙ every-run isPart (drop at s)) in
-    let g = key-grows (0 % 2 ^ 56 * 256 + head_of (drop at s)) (run_of isPart (tailOf (drop at s))) (let b = part-bounds (head_of (drop at s)) p in omega arith) k.1 in
+    let p = or-true (is_letter (head_of (drop at s))) _ h in
+    let r = run_on is_part (drop at s) refl p in
+    let k = both_true (is_part (head_of (drop at s))) (every is_part (run_of is_part (tail_of (drop at s)))) (ap (every is_part) (sym r) ∙ every-run is_part (drop at s)) in
+    let g = key-grows (0 % 2 ^ 56 * 256 + head_of (drop at s)) (run_of is_part (tail_of (drop at s))) (let b = part-bounds (head_of (drop at s)) p in omega arith) k.1 in
     let e = sym (ap key_of r) ∙ z in
     omega arith
 
@@ -60,7 +60,7 @@ module _ (table : List ℕ) (j a b c : ℕ) (below : j < slots_of table) (free :
   within : 3 * j + 2 < length table
   within = omega arith
 
-  place-new : placeAt new j ≡ a
+  place-new : place_at new j ≡ a
   unfolding new
   place-new =
       get_or-set_other (set (set table (3 * j) a) (suc (3 * j)) b) (suc (suc (3 * j))) (3 * j) c 0 (λ z. omega arith)
@@ -82,15 +82,15 @@ module _ (table : List ℕ) (j a b c : ℕ) (below : j < slots_of table) (free :
 -- ---- the labels that a table gives, of which at most so many are noted
 pub record Tabled (text table : List ℕ) (index : List ℕ → Option ℕ) (count : ℕ) : Type 0 where
   pub findable : Findable text table
-  pub gives : (name : List ℕ) → indexIn text table name ≡ index name
+  pub gives : (name : List ℕ) → index_in text table name ≡ index name
   pub used : taken table (slots_of table) ≤ count
 
 -- a table of zeros gives none
 pub tabled-none : (text : List ℕ) (n : ℕ) → Tabled text (replicate n 0) (λ _. none) 0
-unfolding indexIn
+unfolding index_in
 tabled-none text n = record {
   findable = λ name k b h. absurd (h.0 (empty k));
-  gives = λ name. go name (searchIn text (replicate n 0) name) refl;
+  gives = λ name. go name (search_in text (replicate n 0) name) refl;
   used = let e = taken_none (replicate n 0) (slots_of (replicate n 0)) empty in omega arith;
 }
   where
@@ -102,31 +102,31 @@ tabled-none text n = record {
     empty : (k : ℕ) → key_at (replicate n 0) k ≡ 0
     empty k = zeros n (3 * k + 1)
 
-    go : (name : List ℕ) (r : Slot) → searchIn text (replicate n 0) name ≡ r → index_by (searchIn text (replicate n 0) name) (replicate n 0) ≡ none
+    go : (name : List ℕ) (r : Slot) → search_in text (replicate n 0) name ≡ r → index_by (search_in text (replicate n 0) name) (replicate n 0) ≡ none
     go name (Held h) e = absurd ((held-holds text (replicate n 0) name h e).0 (empty h))
     go name (Free f) e = ap (λ (r : Slot). index_by r (replicate n 0)) e
     go name Full e = ap (λ (r : Slot). index_by r (replicate n 0)) e
 
 module _ (text table : List ℕ) (index : List ℕ → Option ℕ) (count : ℕ) (t : Tabled text table index count) (name : List ℕ) where
-  pub tabled-held : (h : ℕ) → searchIn text table name ≡ Held h → (i : ℕ) × (index name ≡ some i)
-  unfolding indexIn
+  pub tabled-held : (h : ℕ) → search_in text table name ≡ Held h → (i : ℕ) × (index name ≡ some i)
+  unfolding index_in
   tabled-held h e = (index_at table h, sym (t.gives name) ∙ ap (λ (r : Slot). index_by r table) e)
 
-  pub tabled-free : (f : ℕ) → searchIn text table name ≡ Free f → index name ≡ none
-  unfolding indexIn
+  pub tabled-free : (f : ℕ) → search_in text table name ≡ Free f → index name ≡ none
+  unfolding index_in
   tabled-free f e = sym (t.gives name) ∙ ap (λ (r : Slot). index_by r table) e
 
   -- no slot is free only if all are taken
-  pub tabled-full : searchIn text table name ≡ Full → slots_of table ≤ count
+  pub tabled-full : search_in text table name ≡ Full → slots_of table ≤ count
   tabled-full e = let a = taken-all table (slots_of table) (full-all text table name e) in let u = t.used in omega arith
 
-pub tabled-new : (text table : List ℕ) (index : List ℕ → Option ℕ) (count at i j : ℕ) → Tabled text table index count → isLetter (head_of (drop at text)) ≡ true
-    → searchIn text table (name_at text at) ≡ Free j
-    → Tabled text (sets table (3 * j) (at ∷ (key_of (name_at text at) ∷ (i ∷ [])))) (λ m. cond (eqBytes (name_at text at) m) (some i) (index m)) (count + 1)
+pub tabled-new : (text table : List ℕ) (index : List ℕ → Option ℕ) (count at i j : ℕ) → Tabled text table index count → is_letter (head_of (drop at text)) ≡ true
+    → search_in text table (name_at text at) ≡ Free j
+    → Tabled text (sets table (3 * j) (at ∷ (key_of (name_at text at) ∷ (i ∷ [])))) (λ m. cond (eq_bytes (name_at text at) m) (some i) (index m)) (count + 1)
 unfolding new
 tabled-new text table index count at i j t l e = record {
   findable = new-findable text table fresh j at i c below t.findable key place number named e;
-  gives = λ m. new-index text table fresh j at i c below t.findable key place number named e m ∙ ap (cond (eqBytes (name_at text at) m) (some i)) (t.gives m);
+  gives = λ m. new-index text table fresh j at i c below t.findable key place number named e m ∙ ap (cond (eq_bytes (name_at text at) m) (some i)) (t.gives m);
   used = room;
 }
   where
@@ -145,7 +145,7 @@ tabled-new text table index count at i j t l e = record {
     key : key_at fresh j ≡ key_of (name_at text at)
     key = key-new table j at (key_of (name_at text at)) i below free
 
-    place : placeAt fresh j ≡ at
+    place : place_at fresh j ≡ at
     place = place-new table j at (key_of (name_at text at)) i below free
 
     number : index_at fresh j ≡ i

@@ -4,7 +4,7 @@
 use Rattle.std.specs.Prelude.{ℕ, zero, suc, ◌+◌, ◌*◌, ◌/◌, ◌%◌, ◌^◌, Bool, cond, ◌&&◌, List, [], ◌∷◌, eqb, ltb, length, get_or}
 use Rattle.std.proofs.Math.Option.{Option, none, some}
 use Rattle.std.proofs.lemmas.List.Edits.{sets}
-use Rattle.labels.specs.Bytes.{eqBytes, key_of}
+use Rattle.labels.specs.Bytes.{eq_bytes, key_of}
 use Rattle.labels.specs.Reading.{name_at}
 use Rattle.labels.specs.declared.table.Name.{Name}
 use Rattle.labels.specs.declared.table.Slot.{Slot}
@@ -15,14 +15,14 @@ use Rattle.labels.specs.declared.table.Noted.{Noted}
 use Rattle.labels.specs.declared.table.Noted.TheVariants as N
 
 -- the name at a place, as it is read
-abbrev pub nameFrom : List ℕ → ℕ → Name
-nameFrom s at = record { key = key_of (name_at s at); after = at + length (name_at s at) }
+abbrev pub name_from : List ℕ → ℕ → Name
+name_from s at = record { key = key_of (name_at s at); after = at + length (name_at s at) }
 
 abbrev pub slots_of : List ℕ → ℕ
 slots_of table = length table / 3
 
-abbrev pub placeAt : List ℕ → ℕ → ℕ
-placeAt table k = get_or table (3 * k) 0
+abbrev pub place_at : List ℕ → ℕ → ℕ
+place_at table k = get_or table (3 * k) 0
 
 abbrev pub key_at : List ℕ → ℕ → ℕ
 key_at table k = get_or table (3 * k + 1) 0
@@ -41,16 +41,16 @@ home_of key slots = cond (ltb slots (2 ^ 32)) (spread_of key * slots / 2 ^ 32) (
 abbrev pub next_of : ℕ → ℕ → ℕ
 next_of slots k = cond (eqb (k + 1) slots) 0 (k + 1)
 
-abbrev pub holdsName : List ℕ → List ℕ → List ℕ → ℕ → Bool
-holdsName text table name k = eqb (key_at table k) (key_of name) && eqBytes (name_at text (placeAt table k)) name
+abbrev pub holds_name : List ℕ → List ℕ → List ℕ → ℕ → Bool
+holds_name text table name k = eqb (key_at table k) (key_of name) && eq_bytes (name_at text (place_at table k)) name
 
-unfoldable pub searchFrom : List ℕ → List ℕ → List ℕ → ℕ → ℕ → Slot
-searchFrom text table name zero k = Full
-searchFrom text table name (suc left) k =
-    cond (eqb (key_at table k) 0) (Free k) (cond (holdsName text table name k) (Held k) (searchFrom text table name left (next_of (slots_of table) k)))
+unfoldable pub search_from : List ℕ → List ℕ → List ℕ → ℕ → ℕ → Slot
+search_from text table name zero k = Full
+search_from text table name (suc left) k =
+    cond (eqb (key_at table k) 0) (Free k) (cond (holds_name text table name k) (Held k) (search_from text table name left (next_of (slots_of table) k)))
 
-unfoldable pub searchIn : List ℕ → List ℕ → List ℕ → Slot
-searchIn text table name = searchFrom text table name (slots_of table) (home_of (key_of name) (slots_of table))
+unfoldable pub search_in : List ℕ → List ℕ → List ℕ → Slot
+search_in text table name = search_from text table name (slots_of table) (home_of (key_of name) (slots_of table))
 
 -- ---- finding: the number of instructions before a label, and the place after its name
 abbrev pub index_by : Slot → List ℕ → Option ℕ
@@ -58,20 +58,20 @@ index_by (Held k) table = some (index_at table k)
 index_by (Free k) table = none
 index_by Full table = none
 
-unfoldable pub indexIn : List ℕ → List ℕ → List ℕ → Option ℕ
-indexIn text table name = index_by (searchIn text table name) table
+unfoldable pub index_in : List ℕ → List ℕ → List ℕ → Option ℕ
+index_in text table name = index_by (search_in text table name) table
 
-abbrev pub foundBy : Option ℕ → ℕ → Found
-foundBy (some i) after = At i after
-foundBy none after = Nothing
+abbrev pub found_by : Option ℕ → ℕ → Found
+found_by (some i) after = At i after
+found_by none after = Nothing
 
 -- ---- noting the name at a place, unless it is noted
-abbrev pub notedBy : Slot → Noted
-notedBy (Held k) = N.Again
-notedBy (Free k) = N.New
-notedBy Full = N.NoRoom
+abbrev pub noted_by : Slot → Noted
+noted_by (Held k) = N.Again
+noted_by (Free k) = N.New
+noted_by Full = N.NoRoom
 
-abbrev pub withLabel : Slot → List ℕ → ℕ → ℕ → ℕ → List ℕ
-withLabel (Held k) table place key index = table
-withLabel (Free k) table place key index = sets table (3 * k) (place ∷ (key ∷ (index ∷ [])))
-withLabel Full table place key index = table
+abbrev pub with_label : Slot → List ℕ → ℕ → ℕ → ℕ → List ℕ
+with_label (Held k) table place key index = table
+with_label (Free k) table place key index = sets table (3 * k) (place ∷ (key ∷ (index ∷ [])))
+with_label Full table place key index = table

@@ -1,8 +1,8 @@
 // The table of labels, which is lent: three numbers a label, found by its name's key.
 ghost use Rattle.std.specs.Prelude.{◌≡◌, ◌&&◌, ◌+◌, ◌<◌, eqb, length};
-ghost use Rattle.labels.specs.Bytes.{eqBytes, key_of};
+ghost use Rattle.labels.specs.Bytes.{eq_bytes, key_of};
 ghost use Rattle.labels.specs.Reading.{name_at};
-ghost use Rattle.labels.specs.Table.{nameFrom, home_of, next_of, searchIn, indexIn, foundBy, notedBy, withLabel};
+ghost use Rattle.labels.specs.Table.{name_from, home_of, next_of, search_in, index_in, found_by, noted_by, with_label};
 
 use crate::text::{byte, part};
 
@@ -48,7 +48,7 @@ fn wide(c: u8) -> u64
 
 // The name at a place. Its key is its last eight bytes as a number.
 pub fn name_at(s: &[u8], at: usize) -> Name
-    ensures { result ≡ nameFrom s.now at }
+    ensures { result ≡ name_from s.now at }
 {
     let mut v: u64 = 0;
     let mut n = at;
@@ -65,7 +65,7 @@ pub fn name_at(s: &[u8], at: usize) -> Name
 // Whether the name at a place of the text is the one from `at` to `after`.
 fn same(text: &[u8], p: usize, s: &[u8], at: usize, after: usize) -> bool
     requires { after ≡ at + length (name_at s.now at) }
-    ensures { result ≡ eqBytes (name_at text.now p) (name_at s.now at) }
+    ensures { result ≡ eq_bytes (name_at text.now p) (name_at s.now at) }
 {
     let mut i = p;
     let mut j = at;
@@ -84,8 +84,8 @@ fn same(text: &[u8], p: usize, s: &[u8], at: usize, after: usize) -> bool
 
 // Whether the label at a place of the table, whose key is q, has this name, which stands at a place.
 fn is_label(text: &[u8], p: u64, q: u64, s: &[u8], at: usize, name: Name) -> bool
-    requires { name ≡ nameFrom s.now at }
-    ensures { result ≡ eqb q (key_of (name_at s.now at)) && eqBytes (name_at text.now p) (name_at s.now at) }
+    requires { name ≡ name_from s.now at }
+    ensures { result ≡ eqb q (key_of (name_at s.now at)) && eq_bytes (name_at text.now p) (name_at s.now at) }
 {
     if q != name.key {
         return false;
@@ -117,8 +117,8 @@ fn next(k: usize, slots: usize) -> usize
 
 // The slot of this name, which stands at a place.
 fn search(text: &[u8], table: &[u64], s: &[u8], at: usize, name: Name) -> Slot
-    requires { name ≡ nameFrom s.now at }
-    ensures { result ≡ searchIn text.now table.now (name_at s.now at) }
+    requires { name ≡ name_from s.now at }
+    ensures { result ≡ search_in text.now table.now (name_at s.now at) }
 {
     let slots = table.len() / 3;
     if slots == 0 {
@@ -145,7 +145,7 @@ fn search(text: &[u8], table: &[u64], s: &[u8], at: usize, name: Name) -> Slot
 
 // The number of instructions before the label that has the name at a place, and the place after the name.
 pub fn find(text: &[u8], table: &[u64], s: &[u8], at: usize) -> Found
-    ensures { result ≡ foundBy (indexIn text.now table.now (name_at s.now at)) (at + length (name_at s.now at)) }
+    ensures { result ≡ found_by (index_in text.now table.now (name_at s.now at)) (at + length (name_at s.now at)) }
 {
     let name = name_at(s, at);
     match search(text, table, s, at, name) {
@@ -157,8 +157,8 @@ pub fn find(text: &[u8], table: &[u64], s: &[u8], at: usize) -> Found
 
 // Notes the label whose name stands at a place of the text, unless one of that name is noted.
 pub fn note(text: &[u8], table: &mut [u64], at: usize, index: u64) -> Noted
-    ensures { (result ≡ notedBy (searchIn text.now table.old (name_at text.now at)))
-        × (table.new ≡ withLabel (searchIn text.now table.old (name_at text.now at)) table.old at (key_of (name_at text.now at)) index) }
+    ensures { (result ≡ noted_by (search_in text.now table.old (name_at text.now at)))
+        × (table.new ≡ with_label (search_in text.now table.old (name_at text.now at)) table.old at (key_of (name_at text.now at)) index) }
 {
     let name = name_at(text, at);
     match search(text, table, text, at, name) {

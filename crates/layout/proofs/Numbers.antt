@@ -9,7 +9,7 @@ use lib.Dec.{ltb, leb, eqb, lit<}
 use borrow.Author.Tests.{lt-ltb, le-ltb, leb-true, leb-false, eqb-true, eqb-false}
 use lib.ListN.{length, take, drop, length-drop, take-append-drop}
 use lib.Seq.{sets, drop-drop, get_or-drop}
-use Rattle.memory.specs.Bytes.{numberOfBytes, bytes, number_at, put_at}
+use Rattle.memory.specs.Bytes.{number_of_bytes, bytes, number_at, put_at}
 use Rattle.memory.proofs.Numbers.{Small, length-bytes, bytes-number}
 use Rattle.layout.proofs.Rows.{sets-next}
 
@@ -25,23 +25,23 @@ read_next n b at next small e fits read =
 
 -- a number of one byte more: its lowest byte, and the number of those above it
 one_more : (n : ℕ) (b : List ℕ) (at : ℕ) → number_at (suc n) b at ≡ number_at n b (at + 1) * 256 + number_at 1 b at
-unfolding numberOfBytes
+unfolding number_of_bytes
 one_more n b at = rw (← drop-drop 1 at b) (by (drop at b))
   where
-    none : (n : ℕ) → numberOfBytes (take n []) ≡ 0
+    none : (n : ℕ) → number_of_bytes (take n []) ≡ 0
     none zero = refl
     none (suc n) = refl
 
-    by : (l : List ℕ) → numberOfBytes (take (suc n) l) ≡ numberOfBytes (take n (drop 1 l)) * 256 + numberOfBytes (take 1 l)
+    by : (l : List ℕ) → number_of_bytes (take (suc n) l) ≡ number_of_bytes (take n (drop 1 l)) * 256 + number_of_bytes (take 1 l)
     by [] = rw (none n)
     by (x ∷ l) = omega arith
 
 -- n bytes are below 256 ^ n
 pub number-below : (n : ℕ) (b : List ℕ) (at : ℕ) → Small b → number_at n b at < 256 ^ n
-unfolding numberOfBytes
+unfolding number_of_bytes
 number-below n b at small = by n (drop at b) (λ k. rw get_or-drop (small (at + k)))
   where
-    by : (n : ℕ) (l : List ℕ) → Small l → numberOfBytes (take n l) < 256 ^ n
+    by : (n : ℕ) (l : List ℕ) → Small l → number_of_bytes (take n l) < 256 ^ n
     by zero l low = lit< tt
     by (suc n) [] low = rw (pow-suc 256 n) (omega (arith, by n [] low))
     by (suc n) (x ∷ l) low = rw (pow-suc 256 n) (omega (arith, low 0, by n l (λ k. low (suc k))))

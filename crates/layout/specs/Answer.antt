@@ -6,5 +6,5 @@ abbrev pub ANSWER_BYTES : ℕ
 ANSWER_BYTES = 24
 
 -- "three 8-byte numbers: code, steps, particular"
-unfoldable pub answerBytes : ℕ → ℕ → ℕ → List ℕ
-answerBytes code steps particular = bytes 8 code ++ (bytes 8 steps ++ bytes 8 particular)
+unfoldable pub answer_bytes : ℕ → ℕ → ℕ → List ℕ
+answer_bytes code steps particular = bytes 8 code ++ (bytes 8 steps ++ bytes 8 particular)

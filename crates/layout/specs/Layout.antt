@@ -3,7 +3,7 @@ use Rattle.std.specs.Prelude.{ℕ, zero, suc, ◌+◌, ◌*◌, ◌%◌, ◌^◌
 use Rattle.memory.specs.Bytes.{bit, bytes, number_at}
 use Rattle.state.specs.Held.{Held, Whole, Limbs, kept, waits}
 use Rattle.state.specs.Registers.{Registers, holds, noted}
-use Rattle.state.specs.Formed.{limbsFit, all_below, wellFormed, registersOf}
+use Rattle.state.specs.Formed.{limbs_fit, all_below, well_formed, registers_of}
 use Rattle.state.specs.declared.State.{State}
 
 -- "The state is 400 bytes": a header, then sixteen records
@@ -17,8 +17,8 @@ abbrev pub STATE_BYTES : ℕ
 STATE_BYTES = HEADER_BYTES + 16 * RECORD_BYTES
 
 -- "pc (8), halt mark 0 or 1, 7 zeros"
-unfoldable pub headerBytes : ℕ → Bool → List ℕ
-headerBytes pc halted = bytes 8 pc ++ (bytes 1 (bit halted) ++ bytes 7 0)
+unfoldable pub header_bytes : ℕ → Bool → List ℕ
+header_bytes pc halted = bytes 8 pc ++ (bytes 1 (bit halted) ++ bytes 7 0)
 
 -- "kind 0 or 1": whole, or accumulated
 unfoldable pub kind_of : Held → ℕ
@@ -35,72 +35,72 @@ second_of (Whole n) = 0
 second_of (Limbs low high) = high
 
 -- "kind 0 or 1, bound, 6 zeros, two 8-byte numbers"
-unfoldable pub recordBytes : Held → ℕ → List ℕ
-recordBytes h bound = bytes 1 (kind_of h) ++ (bytes 1 bound ++ (bytes 6 0 ++ (bytes 8 (first_of h) ++ bytes 8 (second_of h))))
+unfoldable pub record_bytes : Held → ℕ → List ℕ
+record_bytes h bound = bytes 1 (kind_of h) ++ (bytes 1 bound ++ (bytes 6 0 ++ (bytes 8 (first_of h) ++ bytes 8 (second_of h))))
 
 -- the records of n registers, from register i on
 unfoldable pub records : ℕ → ℕ → Registers → List ℕ
 records zero i R = []
-records (suc n) i R = recordBytes (holds R i) (noted R i) ++ records n (i + 1) R
+records (suc n) i R = record_bytes (holds R i) (noted R i) ++ records n (i + 1) R
 
-unfoldable pub stateBytes : State → List ℕ
-stateBytes s = headerBytes s.pc s.halted ++ records 16 0 (registersOf s)
+unfoldable pub state_bytes : State → List ℕ
+state_bytes s = header_bytes s.pc s.halted ++ records 16 0 (registers_of s)
 
 -- the same places, read: where register i's record starts, and what stands in it
-abbrev pub recordAt : ℕ → ℕ
-recordAt i = HEADER_BYTES + RECORD_BYTES * i
+abbrev pub record_at : ℕ → ℕ
+record_at i = HEADER_BYTES + RECORD_BYTES * i
 
-abbrev pub kindIn : List ℕ → ℕ → ℕ
-kindIn b i = number_at 1 b (recordAt i)
+abbrev pub kind_in : List ℕ → ℕ → ℕ
+kind_in b i = number_at 1 b (record_at i)
 
-abbrev pub boundIn : List ℕ → ℕ → ℕ
-boundIn b i = number_at 1 b (recordAt i + 1)
+abbrev pub bound_in : List ℕ → ℕ → ℕ
+bound_in b i = number_at 1 b (record_at i + 1)
 
-abbrev pub zerosIn : List ℕ → ℕ → ℕ
-zerosIn b i = number_at 6 b (recordAt i + 2)
+abbrev pub zeros_in : List ℕ → ℕ → ℕ
+zeros_in b i = number_at 6 b (record_at i + 2)
 
-abbrev pub firstIn : List ℕ → ℕ → ℕ
-firstIn b i = number_at 8 b (recordAt i + 8)
+abbrev pub first_in : List ℕ → ℕ → ℕ
+first_in b i = number_at 8 b (record_at i + 8)
 
-abbrev pub secondIn : List ℕ → ℕ → ℕ
-secondIn b i = number_at 8 b (recordAt i + 16)
+abbrev pub second_in : List ℕ → ℕ → ℕ
+second_in b i = number_at 8 b (record_at i + 16)
 
--- what a register holds by its record; a limb that `wellLaid` turns away is cut, so that every record has an answer
-unfoldable pub heldBy : ℕ → ℕ → ℕ → Held
-heldBy kind first second = cond (eqb kind 1) (Limbs (first % 2 ^ 30) (second % 2 ^ 30)) (Whole first)
+-- what a register holds by its record; a limb that `well_laid` turns away is cut, so that every record has an answer
+unfoldable pub held_by : ℕ → ℕ → ℕ → Held
+held_by kind first second = cond (eqb kind 1) (Limbs (first % 2 ^ 30) (second % 2 ^ 30)) (Whole first)
 
-abbrev pub heldIn : List ℕ → ℕ → Held
-heldIn b i = heldBy (kindIn b i) (firstIn b i) (secondIn b i)
+abbrev pub held_in : List ℕ → ℕ → Held
+held_in b i = held_by (kind_in b i) (first_in b i) (second_in b i)
 
 -- f at n numbers, from i on
 unfoldable pub table : {A : Type 0} → ℕ → ℕ → (ℕ → A) → List A
 table zero i f = []
 table (suc n) i f = f i ∷ table n (i + 1) f
 
-unfoldable pub stateIn : List ℕ → State
-stateIn b =
+unfoldable pub state_in : List ℕ → State
+state_in b =
     record {
       pc = number_at 8 b 0;
       halted = eqb (number_at 1 b 8) 1;
-      regs = table 16 0 (λ i. kept (heldIn b i));
-      accumulated = table 16 0 (λ i. waits (heldIn b i));
-      bounds = table 16 0 (boundIn b);
+      regs = table 16 0 (λ i. kept (held_in b i));
+      accumulated = table 16 0 (λ i. waits (held_in b i));
+      bounds = table 16 0 (bound_in b);
     }
 
 -- a whole register's second number is 0, limbs are below 2^30, and there is no third kind
-unfoldable pub numbersFit : ℕ → ℕ → ℕ → Bool
-numbersFit kind first second = cond (eqb kind 1) (limbsFit (Limbs first second)) (eqb kind 0 && eqb second 0)
+unfoldable pub numbers_fit : ℕ → ℕ → ℕ → Bool
+numbers_fit kind first second = cond (eqb kind 1) (limbs_fit (Limbs first second)) (eqb kind 0 && eqb second 0)
 
-unfoldable pub recordLaid : List ℕ → ℕ → Bool
-recordLaid b i = eqb (zerosIn b i) 0 && numbersFit (kindIn b i) (firstIn b i) (secondIn b i)
+unfoldable pub record_laid : List ℕ → ℕ → Bool
+record_laid b i = eqb (zeros_in b i) 0 && numbers_fit (kind_in b i) (first_in b i) (second_in b i)
 
 -- the bytes are those of some state: their number, the header and each record are as laid down ("A wrong length .. its header too")
-unfoldable pub wellLaid : List ℕ → Bool
-wellLaid b = eqb (length b) STATE_BYTES && leb (number_at 1 b 8) 1 && eqb (number_at 7 b 9) 0 && all_below (recordLaid b) 16
+unfoldable pub well_laid : List ℕ → Bool
+well_laid b = eqb (length b) STATE_BYTES && leb (number_at 1 b 8) 1 && eqb (number_at 7 b 9) 0 && all_below (record_laid b) 16
 
 -- and of one that the rules allow: its bounds are at most 64, and R0 is whole, zero, bound 0
 unfoldable pub admissible : List ℕ → Bool
-admissible b = wellLaid b && wellFormed (registersOf (stateIn b))
+admissible b = well_laid b && well_formed (registers_of (state_in b))
 
 -- what is written whole: a lent slice of another size isn't written
 unfoldable pub written : ℕ → List ℕ → List ℕ → List ℕ

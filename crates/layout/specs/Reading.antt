@@ -1,14 +1,14 @@
 -- Inner: a register's record and the whole state as the code reads them.
 use Rattle.std.specs.Prelude.{ℕ, ◌+◌, ◌/◌, ◌%◌, ◌^◌, Bool, ◌&&◌, List, length, leb, eqb}
 use Rattle.memory.specs.Bytes.{number_at}
-use Rattle.layout.specs.Layout.{STATE_BYTES, numbersFit, stateIn, wellLaid}
+use Rattle.layout.specs.Layout.{STATE_BYTES, numbers_fit, state_in, well_laid}
 use Rattle.layout.specs.declared.records.Record.{Record}
 use Rattle.layout.specs.declared.reading.RecordParts.{RecordParts}
 use Rattle.layout.specs.declared.reading.Reading.{Reading}
 
 -- the first number is taken apart
-abbrev pub recordParts : Record → RecordParts
-recordParts r =
+abbrev pub record_parts : Record → RecordParts
+record_parts r =
     record {
       kind = r.head % 2 ^ 8;
       bound = r.head / 2 ^ 8 % 2 ^ 8;
@@ -27,12 +27,12 @@ parts_at b at =
       second = number_at 8 b (at + 16);
     }
 
-abbrev pub partsLaid : RecordParts → Bool
-partsLaid p = eqb p.zeros 0 && numbersFit p.kind p.first p.second
+abbrev pub parts_laid : RecordParts → Bool
+parts_laid p = eqb p.zeros 0 && numbers_fit p.kind p.first p.second
 
-abbrev pub headerLaid : List ℕ → Bool
-headerLaid b = eqb (length b) STATE_BYTES && leb (number_at 1 b 8) 1 && eqb (number_at 7 b 9) 0
+abbrev pub header_laid : List ℕ → Bool
+header_laid b = eqb (length b) STATE_BYTES && leb (number_at 1 b 8) 1 && eqb (number_at 7 b 9) 0
 
 -- the state in some bytes, and whether they are well laid
-abbrev pub readIn : List ℕ → Reading
-readIn b = record { state = stateIn b; laid = wellLaid b }
+abbrev pub read_in : List ℕ → Reading
+read_in b = record { state = state_in b; laid = well_laid b }

@@ -1,12 +1,12 @@
 // Which bytes are those of a state.
 ghost use Rattle.std.specs.Prelude.{◌≡◌};
-ghost use Rattle.layout.specs.Layout.{wellLaid, admissible};
+ghost use Rattle.layout.specs.Layout.{well_laid, admissible};
 
 use crate::reading::read;
 
 // Whether the bytes are those of some state.
 pub fn well_laid(bytes: &[u8]) -> bool
-    ensures { result ≡ wellLaid bytes.now }
+    ensures { result ≡ well_laid bytes.now }
 {
     let r = read(bytes);
     r.laid

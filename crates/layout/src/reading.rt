@@ -1,8 +1,8 @@
 // The state in some bytes, well laid or not, and which it is: one pass over the records.
 ghost use Rattle.std.specs.Prelude.{◌≡◌, ◌&&◌, ◌≤◌};
 ghost use Rattle.state.specs.Held.{kept};
-ghost use Rattle.layout.specs.Layout.{STATE_BYTES, heldBy, numbersFit, stateIn};
-ghost use Rattle.layout.specs.Reading.{headerLaid, recordParts, parts_at, partsLaid, readIn};
+ghost use Rattle.layout.specs.Layout.{STATE_BYTES, held_by, numbers_fit, state_in};
+ghost use Rattle.layout.specs.Reading.{header_laid, record_parts, parts_at, parts_laid, read_in};
 
 use crate::records::{Record, numbers_at};
 use crate::{HEADER_BYTES, LIMB_LIMIT, RECORD_BYTES, STATE_BYTES};
@@ -27,7 +27,7 @@ pub struct Reading {
 }
 
 fn record_parts(r: Record) -> RecordParts
-    ensures { result ≡ recordParts r }
+    ensures { result ≡ record_parts r }
 {
     RecordParts {
         kind: (r.head % 0x100) as u8,
@@ -47,7 +47,7 @@ fn parts_at(bytes: &[u8], at: usize) -> RecordParts
 
 // How the register is kept.
 fn kept_by(kind: u8, first: u64, second: u64) -> u64
-    ensures { result ≡ kept (heldBy kind first second) }
+    ensures { result ≡ kept (held_by kind first second) }
 {
     if kind != 1 {
         return first;
@@ -56,7 +56,7 @@ fn kept_by(kind: u8, first: u64, second: u64) -> u64
 }
 
 fn numbers_fit(kind: u8, first: u64, second: u64) -> bool
-    ensures { result ≡ numbersFit kind first second }
+    ensures { result ≡ numbers_fit kind first second }
 {
     if kind == 1 {
         if LIMB_LIMIT <= first {
@@ -71,7 +71,7 @@ fn numbers_fit(kind: u8, first: u64, second: u64) -> bool
 }
 
 fn parts_laid(p: RecordParts) -> bool
-    ensures { result ≡ partsLaid p }
+    ensures { result ≡ parts_laid p }
 {
     if p.zeros != 0 {
         return false;
@@ -81,7 +81,7 @@ fn parts_laid(p: RecordParts) -> bool
 
 // The mark, 0 or 1, and its seven zeros are one number below 2.
 fn header_laid(bytes: &[u8]) -> bool
-    ensures { result ≡ headerLaid bytes.now }
+    ensures { result ≡ header_laid bytes.now }
 {
     if bytes.len() != STATE_BYTES {
         return false;
@@ -97,7 +97,7 @@ fn both(a: bool, b: bool) -> bool
 
 // A caller that has tested the length gets the numbers by one load each.
 pub fn read(bytes: &[u8]) -> Reading
-    ensures { result ≡ readIn bytes.now }
+    ensures { result ≡ read_in bytes.now }
 {
     let mut regs = [0u64; 16];
     let mut accumulated = [false; 16];
@@ -119,7 +119,7 @@ pub fn read(bytes: &[u8]) -> Reading
 }
 
 pub fn read_state(bytes: &[u8]) -> State
-    ensures { result ≡ stateIn bytes.now }
+    ensures { result ≡ state_in bytes.now }
 {
     let r = read(bytes);
     r.state

@@ -1,7 +1,7 @@
 // A register's record as three numbers of eight bytes: kind, bound and six zeros are the first.
 ghost use Rattle.std.specs.Prelude.{◌≡◌, ◌≤◌};
 ghost use Rattle.layout.specs.Layout.{STATE_BYTES};
-ghost use Rattle.layout.specs.Numbers.{numbersAt};
+ghost use Rattle.layout.specs.Numbers.{numbers_at};
 
 use memory::bytes::number_at;
 
@@ -15,7 +15,7 @@ pub(crate) struct Record {
 // Nothing is taken apart here: so the compiler makes one load of each number.
 pub(crate) fn numbers_at(bytes: &[u8], at: usize) -> Record
     requires { at ≤ STATE_BYTES }
-    ensures { result ≡ numbersAt bytes.now at }
+    ensures { result ≡ numbers_at bytes.now at }
 {
     let head = number_at(bytes, at, 8);
     let first = number_at(bytes, at + 8, 8);

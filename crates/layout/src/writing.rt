@@ -4,8 +4,8 @@ ghost use Rattle.std.proofs.lemmas.List.Edits.{sets};
 ghost use Rattle.memory.specs.Bytes.{bytes};
 ghost use Rattle.state.specs.Held.{held_of};
 ghost use Rattle.state.specs.Registers.{registers};
-ghost use Rattle.layout.specs.Layout.{HEADER_BYTES, STATE_BYTES, recordBytes, records, stateBytes, written};
-ghost use Rattle.layout.specs.Numbers.{numbersOf};
+ghost use Rattle.layout.specs.Layout.{HEADER_BYTES, STATE_BYTES, record_bytes, records, state_bytes, written};
+ghost use Rattle.layout.specs.Numbers.{numbers_of};
 
 use crate::records::Record;
 use crate::{HEADER_BYTES, LIMB_LIMIT, RECORD_BYTES, STATE_BYTES};
@@ -13,7 +13,7 @@ use memory::bytes::{bit, put_number};
 use state::State;
 
 fn record_of(waits: bool, v: u64, bound: u8) -> Record
-    ensures { numbersOf result ≡ recordBytes (held_of waits v) bound }
+    ensures { numbers_of result ≡ record_bytes (held_of waits v) bound }
 {
     let noted = 256 * bound as u64;
     if waits {
@@ -72,7 +72,7 @@ fn put_records<'a>(
 
 // Bytes of another length aren't written.
 pub fn write_state(bytes: &mut [u8], s: State)
-    ensures { bytes.new ≡ written STATE_BYTES (stateBytes s) bytes.old }
+    ensures { bytes.new ≡ written STATE_BYTES (state_bytes s) bytes.old }
 {
     if bytes.len() != STATE_BYTES {
         return;

@@ -14,11 +14,11 @@ use Rattle.checks.specs.contracts.Pending as K
 use Rattle.checked.specs.contracts.step as step
 
 -- the machine values of the choices and of a state
-abbrev pub valsC : Choices → List Val
-valsC = LL.vals O.the_type O'.the_laws
+abbrev pub vals_c : Choices → List Val
+vals_c = LL.vals O.the_type O'.the_laws
 
-abbrev pub valsS : State → List Val
-valsS = LL.vals T.the_type T'.the_laws
+abbrev pub vals_s : State → List Val
+vals_s = LL.vals T.the_type T'.the_laws
 
 module _ {M : Type 1} {𝓤 : Ura M} (𝓛 : Logic 𝓤) (at_mem : Memory → SProp 𝓤) (run : Routine → Fun 𝓤) where
   open 𝓛 use {A}
@@ -43,9 +43,9 @@ module _ {M : Type 1} {𝓤 : Ura M} (𝓛 : Logic 𝓤) (at_mem : Memory → SP
     asked = (c, (h, (xm, (xl, (n, tt)))))
 
     abbrev pub to_step : Step.Ghost
-    to_step = (((κ₁, (κ₂, tt)), (q₁, (q₂, tt)), tt, asked, (valsC c, (valsS h, (sm ∷ [], (sl ∷ [], (vint w64 n ∷ [], tt)))))), tt)
+    to_step = (((κ₁, (κ₂, tt)), (q₁, (q₂, tt)), tt, asked, (vals_c c, (vals_s h, (sm ∷ [], (sl ∷ [], (vint w64 n ∷ [], tt)))))), tt)
 
-    pub goes_step : Is O.the_row c (valsC c) → Is T.the_row h (valsS h) → n < 2 ^ 64
+    pub goes_step : Is O.the_row c (vals_c c) → Is T.the_row h (vals_s h) → n < 2 ^ 64
         → ent 𝓤 (sep 𝓤 (sep 𝓤 (A.lft κ₁ q₁) (sep 𝓤 (A.lft κ₂ q₂) (sem 𝓛 ftrue))) (sep 𝓤 (sem 𝓛 ((MutSlice (named 0) κ₁ u8).own_val xm (sm ∷ []))) (sem 𝓛 ((MutSlice (named 1) κ₂ K.the_row).own_val xl (sl ∷ []))))) (Step.pre to_step)
     goes_step c-is h-is fits =
         qed 𝓛 ((‵ (flft κ₁ q₁) ⊛ ‵ (flft κ₂ q₂) ⊛ ‵ ftrue) ∷ ‵ ((MutSlice (named 0) κ₁ u8).own_val xm (sm ∷ [])) ∷ ‵ ((MutSlice (named 1) κ₂ K.the_row).own_val xl (sl ∷ [])) ∷ []) ∵

@@ -2,7 +2,7 @@
 ghost use Rattle.std.specs.Prelude.{◌≡◌, ◌&&◌, leb};
 ghost use Rattle.state.specs.Formed.{all_below};
 ghost use Rattle.checks.specs.Records.{listed};
-ghost use Rattle.lent.specs.Lent.{markFits, laid, stateOfLent, lent_of, recordAfter, lentStep, stepLent};
+ghost use Rattle.lent.specs.Lent.{mark_fits, laid, state_of_lent, lent_of, record_after, lent_step, step_lent};
 ghost use Rattle.lent.specs.Inner.{readied, concluded};
 
 use checks::Pending;
@@ -46,7 +46,7 @@ struct Done {
 }
 
 fn kinds_fit(kinds: &[u8; 16]) -> bool
-    ensures { result ≡ all_below (markFits kinds.now) 16 }
+    ensures { result ≡ all_below (mark_fits kinds.now) 16 }
 {
     let mut i: usize = 0;
     while i < 16 {
@@ -72,7 +72,7 @@ fn lent_taken(r: Lent, mode: u64) -> bool
 }
 
 fn state_of_lent(r: Lent) -> State
-    ensures { result ≡ stateOfLent r }
+    ensures { result ≡ state_of_lent r }
 {
     let kinds = r.kinds;
     let mut accumulated = [false; 16];
@@ -129,7 +129,7 @@ fn prepare(r: Lent, mode: u64) -> Ready
 
 // A refused step leaves the record as it was.
 fn record_after(r: Lent, went: Went, s: State) -> Lent
-    ensures { result ≡ recordAfter r went s }
+    ensures { result ≡ record_after r went s }
 {
     match went {
         Went::On => lent_of(s),
@@ -163,7 +163,7 @@ pub extern "C" fn zkir_step(
     count: usize,
     mode: u64,
 ) -> StepAnswer
-    ensures { lentStep result state.new memory.new (listed result.count list.new) ≡ stepLent mode state.old memory.old (listed count list.old) }
+    ensures { lent_step result state.new memory.new (listed result.count list.new) ≡ step_lent mode state.old memory.old (listed count list.old) }
 {
     let old = *state;
     let a = prepare(old, mode);

@@ -1,7 +1,7 @@
 // One thin entry that steps a state which its host lends.
 ghost use Rattle.std.specs.Prelude.{◌≡◌};
-ghost use Rattle.execute.specs.World.{worldOf};
-ghost use Rattle.execute.specs.Rules.{rulesOf};
+ghost use Rattle.execute.specs.World.{world_of};
+ghost use Rattle.execute.specs.Rules.{rules_of};
 ghost use Rattle.step.specs.Step.{left, step};
 ghost use Rattle.checks.specs.Records.{listed};
 
@@ -25,7 +25,7 @@ pub fn step_in_place(
     list: &mut [Pending],
     count: usize,
 ) -> InPlace
-    ensures { left result.went (worldOf s.new m.new) (listed result.count list.new) ≡ step choices.mode (rulesOf choices) (worldOf s.old m.old) (listed count list.old) }
+    ensures { left result.went (world_of s.new m.new) (listed result.count list.new) ≡ step choices.mode (rules_of choices) (world_of s.old m.old) (listed count list.old) }
 {
     let old = *s;
     let r = checked::step(choices, old, m, list, count);

@@ -1,12 +1,12 @@
 -- How a line ends that is blank or defines a label. Assumes nothing.
 use Rattle.std.proofs.Common.{◌≡◌, ℕ, zero, suc, ◌+◌, ◌<◌, ◌≤◌, Bool, true, false, cond, ◌&&◌, eqb, List, [], ◌∷◌, length, get_or, drop, sym, refl, ap, ◌∙◌, zero-add, arith, eqb-true}
-use Rattle.labels.specs.Bytes.{isSpace, isLetter, every, head_of, key_of}
-use Rattle.labels.specs.Reading.{tailOf, run_of, past, skip, name_at}
+use Rattle.labels.specs.Bytes.{is_space, is_letter, every, head_of, key_of}
+use Rattle.labels.specs.Reading.{tail_of, run_of, past, skip, name_at}
 use Rattle.labels.proofs.Spans.{both_true, inside}
 use Rattle.labels.proofs.Classes.{or-true}
 use Rattle.labels.proofs.Steps.{passed}
 use Rattle.lines.specs.Reader.{nothing}
-use Rattle.lines.specs.Code.{isEnd, start_of}
+use Rattle.lines.specs.Code.{is_end, start_of}
 use Rattle.lines.specs.declared.Start.{Start}
 use Rattle.lines.specs.declared.Start.TheVariants as Start
 
@@ -19,51 +19,51 @@ none_left p (b ∷ t) h = go (p b) refl (none_left p t) h
     go true e r h = simp (e, r h)
     go false e r h = absurd (let z : ◌≡◌ {A = ℕ} 0 1 = cc in omega arith)
 
-spaces-end : (t : List ℕ) → every isSpace t ≡ true → every isEnd t ≡ true
+spaces-end : (t : List ℕ) → every is_space t ≡ true → every is_end t ≡ true
 unfolding every
 spaces-end [] h = refl
-spaces-end (b ∷ t) h = let k = both_true (isSpace b) (every isSpace t) h in simp (or-true (isSpace b) (eqb b 58) k.0, spaces-end t k.1)
+spaces-end (b ∷ t) h = let k = both_true (is_space b) (every is_space t) h in simp (or-true (is_space b) (eqb b 58) k.0, spaces-end t k.1)
 
-colon-ends : (t : List ℕ) → head_of t ≡ 58 → nothing (skip (tailOf t)) ≡ true → every isEnd t ≡ true
-unfolding every head_of tailOf
+colon-ends : (t : List ℕ) → head_of t ≡ 58 → nothing (skip (tail_of t)) ≡ true → every is_end t ≡ true
+unfolding every head_of tail_of
 colon-ends [] h k = refl
-colon-ends (b ∷ t) h k = let i : isEnd b ≡ true = ap isEnd h in simp (i, spaces-end t (none_left isSpace t k))
+colon-ends (b ∷ t) h k = let i : is_end b ≡ true = ap is_end h in simp (i, spaces-end t (none_left is_space t k))
 
 -- from a place on, such a line is spaces and colons
 abbrev Ended : List ℕ → Start → Type 0
-Ended s Start.Blank = every isEnd s ≡ true
-Ended s (Start.Label p) = (n : ℕ) × ((n < length s) × (every isEnd (drop n s) ≡ true))
+Ended s Start.Blank = every is_end s ≡ true
+Ended s (Start.Label p) = (n : ℕ) × ((n < length s) × (every is_end (drop n s) ≡ true))
 Ended s (Start.Word p e) = Unit {0}
 Ended s Start.Other = Unit {0}
 
 module _ (s : List ℕ) where
   at : ℕ
-  at = length (run_of isSpace s)
+  at = length (run_of is_space s)
 
   e : ℕ
   e = at + length (name_at s at)
 
   n : ℕ
-  n = e + length (run_of isSpace (drop e s))
+  n = e + length (run_of is_space (drop e s))
 
   to : drop n s ≡ skip (drop e s)
   unfolding n
-  to = (passed isSpace s e n refl).rest
+  to = (passed is_space s e n refl).rest
 
-  blank : nothing (drop at s) ≡ true → every isEnd s ≡ true
+  blank : nothing (drop at s) ≡ true → every is_end s ≡ true
   unfolding at
-  blank h = spaces-end s (none_left isSpace s (ap nothing (sym (passed isSpace s 0 at (sym (zero-add at))).rest) ∙ h))
+  blank h = spaces-end s (none_left is_space s (ap nothing (sym (passed is_space s 0 at (sym (zero-add at))).rest) ∙ h))
 
-  defines : eqb (head_of (skip (drop e s))) 58 ≡ true → nothing (skip (tailOf (skip (drop e s)))) ≡ true → (n < length s) × (every isEnd (drop n s) ≡ true)
+  defines : eqb (head_of (skip (drop e s))) 58 ≡ true → nothing (skip (tail_of (skip (drop e s)))) ≡ true → (n < length s) × (every is_end (drop n s) ≡ true)
   defines h k =
       let c : head_of (drop n s) ≡ 58 = ap head_of to ∙ eqb-true _ _ h in
-      (inside s n (λ z. let w = sym c ∙ z in omega arith), colon-ends (drop n s) c (ap (λ (t : List ℕ). nothing (skip (tailOf t))) to ∙ k))
+      (inside s n (λ z. let w = sym c ∙ z in omega arith), colon-ends (drop n s) c (ap (λ (t : List ℕ). nothing (skip (tail_of t))) to ∙ k))
 
   ended : Ended s (start_of s)
   unfolding start_of at e n
-  ended = go (nothing (drop at s)) (isLetter (head_of (drop at s))) (eqb (head_of (skip (drop e s))) 58) (nothing (skip (tailOf (skip (drop e s))))) refl refl refl
+  ended = go (nothing (drop at s)) (is_letter (head_of (drop at s))) (eqb (head_of (skip (drop e s))) 58) (nothing (skip (tail_of (skip (drop e s))))) refl refl refl
     where
-      go : (a b c d : Bool) → nothing (drop at s) ≡ a → eqb (head_of (skip (drop e s))) 58 ≡ c → nothing (skip (tailOf (skip (drop e s)))) ≡ d
+      go : (a b c d : Bool) → nothing (drop at s) ≡ a → eqb (head_of (skip (drop e s))) 58 ≡ c → nothing (skip (tail_of (skip (drop e s)))) ≡ d
           → Ended s (cond a Start.Blank (cond b (cond c (cond d (Start.Label at) Start.Other) (Start.Word (key_of (name_at s at)) n)) Start.Other))
       go true b c d h i j = blank h
       go false true true true h i j = (n, defines i j)
@@ -80,14 +80,14 @@ last-ends p (b ∷ t) (suc n) zero q l h = absurd (omega arith)
 last-ends p (b ∷ t) (suc n) (suc k) q l h = last-ends p t n k (omega arith) (omega arith) h
 
 -- a line with another last byte is an instruction, right or wrong
-pub plain-start : {A : Type 0} (f : Start → A) (v : A) (s : List ℕ) (k : ℕ) → length s ≡ suc k → isEnd (get_or s k 0) ≡ false → ((p e : ℕ) → f (Start.Word p e) ≡ v) → f Start.Other ≡ v → f (start_of s) ≡ v
+pub plain-start : {A : Type 0} (f : Start → A) (v : A) (s : List ℕ) (k : ℕ) → length s ≡ suc k → is_end (get_or s k 0) ≡ false → ((p e : ℕ) → f (Start.Word p e) ≡ v) → f Start.Other ≡ v → f (start_of s) ≡ v
 plain-start f v s k q h w o = go (start_of s) (ended s)
   where
-    no : {B : Type 0} → isEnd (get_or s k 0) ≡ true → B
+    no : {B : Type 0} → is_end (get_or s k 0) ≡ true → B
     no i = let j : true ≡ false = sym i ∙ h in absurd (let z : ◌≡◌ {A = ℕ} 0 1 = cc in omega arith)
 
     go : (x : Start) → Ended s x → f x ≡ v
-    go Start.Blank i = no (last-ends isEnd s 0 k q (omega arith) i)
-    go (Start.Label p) i = let b = i.1.0 in no (last-ends isEnd s i.0 k q (omega arith) i.1.1)
+    go Start.Blank i = no (last-ends is_end s 0 k q (omega arith) i)
+    go (Start.Label p) i = let b = i.1.0 in no (last-ends is_end s i.0 k q (omega arith) i.1.1)
     go (Start.Word p e) i = w p e
     go Start.Other i = o

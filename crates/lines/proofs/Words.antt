@@ -1,39 +1,39 @@
 -- The operands of an instruction one by one, and its word. Assumes nothing.
 use Rattle.std.proofs.Common.{◌≡◌, ℕ, ◌+◌, ◌-◌, ◌%◌, ◌^◌, ◌<◌, ◌≤◌, Bool, true, false, cond, eqb, ltb, List, [], ◌∷◌, length, drop, ℤ, pos, sym, refl, ap, ◌∙◌, arith, w64, of_z, ltb-false, ltb-true, lt-ltb}
 use mathlib.Core.Option.{Option, none, some}
-use Rattle.opcode.specs.Opcodes.{opcodeNumber, form_of}
+use Rattle.opcode.specs.Opcodes.{opcode_number, form_of}
 use Rattle.opcode.specs.declared.Opcode.{Opcode}
 use Rattle.opcode.specs.declared.Form.{Form}
 use Rattle.opcode.specs.declared.Form.TheVariants.{R, I, Shift, S, B, J, Alone}
 use Rattle.instruction.specs.declared.Parts.{Parts}
-use Rattle.words.specs.Words.{encodedIn}
-use Rattle.labels.specs.Bytes.{head_of, isSpace}
-use Rattle.labels.specs.Reading.{tailOf, skip, Passed}
+use Rattle.words.specs.Words.{encoded_in}
+use Rattle.labels.specs.Bytes.{head_of, is_space}
+use Rattle.labels.specs.Reading.{tail_of, skip, Passed}
 use Rattle.sums.specs.Reader.{Got, got, bad, onto}
 use Rattle.sums.specs.Code.{of64}
 use Rattle.lines.proofs.Steps.{nothing-end, nothing-not}
 use Rattle.sums.proofs.Differences.{dif-ge, dif-lt}
-use Rattle.lines.specs.Lines.{Kind, register, kindsOf, pushed, parts, partsBy, wordMade, word_for, sayingOf, Saying, word, wrong}
-use Rattle.lines.specs.Reader.{operandRead, nothing, with, operandsRead}
-use Rattle.lines.specs.Code.{commaRead, lastRead, wordOrWrong, isNumbered}
+use Rattle.lines.specs.Lines.{Kind, register, kinds_of, pushed, parts, parts_by, word_made, word_for, saying_of, Saying, word, wrong}
+use Rattle.lines.specs.Reader.{operand_read, nothing, with, operands_read}
+use Rattle.lines.specs.Code.{comma_read, last_read, word_or_wrong, is_numbered}
 
 -- ---- operands, one by one
 module _ (look : List ℕ → Option ℤ) where
-  ops-comma : (k j : Kind) (ks : List Kind) (t : List ℕ) → operandsRead (k ∷ (j ∷ ks)) look t ≡ with (commaRead k look t) (λ v u. pushed (some v) (operandsRead (j ∷ ks) look u))
-  unfolding operandsRead commaRead
-  ops-comma k j ks t = go (operandRead k look (skip t))
+  ops-comma : (k j : Kind) (ks : List Kind) (t : List ℕ) → operands_read (k ∷ (j ∷ ks)) look t ≡ with (comma_read k look t) (λ v u. pushed (some v) (operands_read (j ∷ ks) look u))
+  unfolding operands_read comma_read
+  ops-comma k j ks t = go (operand_read k look (skip t))
     where
-      by : (c : Bool) (v : ℤ) (u : List ℕ) → cond c (pushed (some v) (operandsRead (j ∷ ks) look (tailOf u))) none ≡ with (cond c (got v (tailOf u)) bad) (λ v u. pushed (some v) (operandsRead (j ∷ ks) look u))
+      by : (c : Bool) (v : ℤ) (u : List ℕ) → cond c (pushed (some v) (operands_read (j ∷ ks) look (tail_of u))) none ≡ with (cond c (got v (tail_of u)) bad) (λ v u. pushed (some v) (operands_read (j ∷ ks) look u))
       by true v u = refl
       by false v u = refl
 
-      go : (w : Got) → with w (λ v u. cond (eqb (head_of u) 44) (pushed (some v) (operandsRead (j ∷ ks) look (tailOf u))) none) ≡ with (onto (λ v u. cond (eqb (head_of u) 44) (got v (tailOf u)) bad) w) (λ v u. pushed (some v) (operandsRead (j ∷ ks) look u))
+      go : (w : Got) → with w (λ v u. cond (eqb (head_of u) 44) (pushed (some v) (operands_read (j ∷ ks) look (tail_of u))) none) ≡ with (onto (λ v u. cond (eqb (head_of u) 44) (got v (tail_of u)) bad) w) (λ v u. pushed (some v) (operands_read (j ∷ ks) look u))
       go bad = refl
       go (got v u) = by (eqb (head_of u) 44) v u
 
-  ops-last : (k : Kind) (t : List ℕ) → operandsRead (k ∷ []) look t ≡ with (lastRead k look t) (λ v u. some (v ∷ []))
-  unfolding operandsRead lastRead
-  ops-last k t = go (operandRead k look (skip t))
+  ops-last : (k : Kind) (t : List ℕ) → operands_read (k ∷ []) look t ≡ with (last_read k look t) (λ v u. some (v ∷ []))
+  unfolding operands_read last_read
+  ops-last k t = go (operand_read k look (skip t))
     where
       by : (c : Bool) (v : ℤ) (u : List ℕ) → cond c (some (v ∷ [])) none ≡ with (cond c (got v u) bad) (λ v u. some (v ∷ []))
       by true v u = refl
@@ -43,48 +43,48 @@ module _ (look : List ℕ → Option ℤ) where
       go bad = refl
       go (got v u) = by (nothing u) v u
 
-  pub first-bad : (k j : Kind) (ks : List Kind) (t : List ℕ) → commaRead k look t ≡ bad → operandsRead (k ∷ (j ∷ ks)) look t ≡ none
-  first-bad k j ks t e = ops-comma k j ks t ∙ ap (λ (w : Got). with w (λ v u. pushed (some v) (operandsRead (j ∷ ks) look u))) e
+  pub first-bad : (k j : Kind) (ks : List Kind) (t : List ℕ) → comma_read k look t ≡ bad → operands_read (k ∷ (j ∷ ks)) look t ≡ none
+  first-bad k j ks t e = ops-comma k j ks t ∙ ap (λ (w : Got). with w (λ v u. pushed (some v) (operands_read (j ∷ ks) look u))) e
 
-  pub first-got : (k j : Kind) (ks : List Kind) (t : List ℕ) (v : ℤ) (u : List ℕ) (o : Option (List ℤ)) → commaRead k look t ≡ got v u → operandsRead (j ∷ ks) look u ≡ o → operandsRead (k ∷ (j ∷ ks)) look t ≡ pushed (some v) o
-  first-got k j ks t v u o e f = ops-comma k j ks t ∙ ap (λ (w : Got). with w (λ v u. pushed (some v) (operandsRead (j ∷ ks) look u))) e ∙ ap (pushed (some v)) f
+  pub first-got : (k j : Kind) (ks : List Kind) (t : List ℕ) (v : ℤ) (u : List ℕ) (o : Option (List ℤ)) → comma_read k look t ≡ got v u → operands_read (j ∷ ks) look u ≡ o → operands_read (k ∷ (j ∷ ks)) look t ≡ pushed (some v) o
+  first-got k j ks t v u o e f = ops-comma k j ks t ∙ ap (λ (w : Got). with w (λ v u. pushed (some v) (operands_read (j ∷ ks) look u))) e ∙ ap (pushed (some v)) f
 
-  pub last_none : (k : Kind) (t : List ℕ) → lastRead k look t ≡ bad → operandsRead (k ∷ []) look t ≡ none
+  pub last_none : (k : Kind) (t : List ℕ) → last_read k look t ≡ bad → operands_read (k ∷ []) look t ≡ none
   last_none k t e = ops-last k t ∙ ap (λ (w : Got). with w (λ v u. some (v ∷ []))) e
 
-  pub last_some : (k : Kind) (t : List ℕ) (v : ℤ) (u : List ℕ) → lastRead k look t ≡ got v u → operandsRead (k ∷ []) look t ≡ some (v ∷ [])
+  pub last_some : (k : Kind) (t : List ℕ) (v : ℤ) (u : List ℕ) → last_read k look t ≡ got v u → operands_read (k ∷ []) look t ≡ some (v ∷ [])
   last_some k t v u e = ops-last k t ∙ ap (λ (w : Got). with w (λ v u. some (v ∷ []))) e
 
   -- a register does not ask what labels mean
-  pub register-any : (look' : List ℕ → Option ℤ) (t : List ℕ) (w : Got) → commaRead register look' t ≡ w → commaRead register look t ≡ w
-  unfolding commaRead operandRead
+  pub register-any : (look' : List ℕ → Option ℤ) (t : List ℕ) (w : Got) → comma_read register look' t ≡ w → comma_read register look t ≡ w
+  unfolding comma_read operand_read
   register-any look' t w e = e
 
 -- ---- the word
-pub none-word : (op : Opcode) (o : Option (List ℤ)) → o ≡ none → sayingOf (word_for op o) ≡ Saying.wrong
+pub none-word : (op : Opcode) (o : Option (List ℤ)) → o ≡ none → saying_of (word_for op o) ≡ Saying.wrong
 unfolding word_for
-none-word op o e = ap (λ (x : Option (List ℤ)). sayingOf (word_for op x)) e
+none-word op o e = ap (λ (x : Option (List ℤ)). saying_of (word_for op x)) e
 
-pub some_word : (op : Opcode) (o : Option (List ℤ)) (vs : List ℤ) (p : Parts) → o ≡ some vs → partsBy op (form_of op) vs ≡ p → sayingOf (word_for op o) ≡ sayingOf (wordMade (encodedIn opcodeNumber p))
+pub some_word : (op : Opcode) (o : Option (List ℤ)) (vs : List ℤ) (p : Parts) → o ≡ some vs → parts_by op (form_of op) vs ≡ p → saying_of (word_for op o) ≡ saying_of (word_made (encoded_in opcode_number p))
 unfolding word_for
-some_word op o vs p e q = ap (λ (x : Option (List ℤ)). sayingOf (word_for op x)) e ∙ ap (λ (x : Parts). sayingOf (wordMade (encodedIn opcodeNumber x))) q
+some_word op o vs p e q = ap (λ (x : Option (List ℤ)). saying_of (word_for op x)) e ∙ ap (λ (x : Parts). saying_of (word_made (encoded_in opcode_number x))) q
 
-pub word-is : (w n : ℕ) → n ≡ w → n < 2 ^ 32 → word w ≡ wordOrWrong n
+pub word-is : (w n : ℕ) → n ≡ w → n < 2 ^ 32 → word w ≡ word_or_wrong n
 word-is w n e h = ap word (sym e) ∙ sym (ap (λ (c : Bool). cond c (word n) wrong) (lt-ltb n (2 ^ 32) h))
 
 module _ (op : Opcode) (a b : ℕ) where
-  pub parts-three : (c : ℕ) → form_of op ≡ R → partsBy op (form_of op) (pos a ∷ (pos b ∷ (pos c ∷ []))) ≡ parts op a b c 0
-  unfolding partsBy
-  parts-three c e = ap (λ (f : Form). partsBy op f (pos a ∷ (pos b ∷ (pos c ∷ [])))) e
+  pub parts-three : (c : ℕ) → form_of op ≡ R → parts_by op (form_of op) (pos a ∷ (pos b ∷ (pos c ∷ []))) ≡ parts op a b c 0
+  unfolding parts_by
+  parts-three c e = ap (λ (f : Form). parts_by op f (pos a ∷ (pos b ∷ (pos c ∷ [])))) e
 
-  pub parts-two : (v : ℤ) (i : ℕ) → isNumbered (form_of op) ≡ true → i ≡ of_z w64 v → partsBy op (form_of op) (pos a ∷ (pos b ∷ (v ∷ []))) ≡ parts op a b 0 i
-  unfolding partsBy
+  pub parts-two : (v : ℤ) (i : ℕ) → is_numbered (form_of op) ≡ true → i ≡ of_z w64 v → parts_by op (form_of op) (pos a ∷ (pos b ∷ (v ∷ []))) ≡ parts op a b 0 i
+  unfolding parts_by
   parts-two v i h e = go (form_of op) h
     where
       no : {A : Type 0} → false ≡ true → A
       no h = absurd (let z : ◌≡◌ {A = ℕ} 0 1 = cc in omega arith)
 
-      go : (f : Form) → isNumbered f ≡ true → partsBy op f (pos a ∷ (pos b ∷ (v ∷ []))) ≡ parts op a b 0 i
+      go : (f : Form) → is_numbered f ≡ true → parts_by op f (pos a ∷ (pos b ∷ (v ∷ []))) ≡ parts op a b 0 i
       go R h = no h
       go I h = ap (parts op a b 0) (sym e)
       go Shift h = ap (parts op a b 0) (sym e)
@@ -93,13 +93,13 @@ module _ (op : Opcode) (a b : ℕ) where
       go J h = no h
       go Alone h = no h
 
-pub parts-one : (op : Opcode) (a : ℕ) (v : ℤ) (i : ℕ) → form_of op ≡ J → i ≡ of_z w64 v → partsBy op (form_of op) (pos a ∷ (v ∷ [])) ≡ parts op a 0 0 i
-unfolding partsBy
-parts-one op a v i e q = ap (λ (f : Form). partsBy op f (pos a ∷ (v ∷ []))) e ∙ ap (parts op a 0 0) (sym q)
+pub parts-one : (op : Opcode) (a : ℕ) (v : ℤ) (i : ℕ) → form_of op ≡ J → i ≡ of_z w64 v → parts_by op (form_of op) (pos a ∷ (v ∷ [])) ≡ parts op a 0 0 i
+unfolding parts_by
+parts-one op a v i e q = ap (λ (f : Form). parts_by op f (pos a ∷ (v ∷ []))) e ∙ ap (parts op a 0 0) (sym q)
 
-pub parts_none : (op : Opcode) → form_of op ≡ Alone → partsBy op (form_of op) [] ≡ parts op 0 0 0 0
-unfolding partsBy
-parts_none op e = ap (λ (f : Form). partsBy op f []) e
+pub parts_none : (op : Opcode) → form_of op ≡ Alone → parts_by op (form_of op) [] ≡ parts op 0 0 0 0
+unfolding parts_by
+parts_none op e = ap (λ (f : Form). parts_by op f []) e
 
 pub bits_of : (v : ℕ) → v < 2 ^ 64 → (v + 2 ^ 63) % 2 ^ 64 ≡ of_z w64 (of64 v)
 bits_of v h = go (ltb v (2 ^ 63)) refl
@@ -109,16 +109,16 @@ bits_of v h = go (ltb v (2 ^ 63)) refl
     go false e = let l = ltb-false v (2 ^ 63) e in sym (ap (of_z w64) (dif-ge v (2 ^ 63) l) ∙ omega arith)
 
 -- ---- no operands
-module _ (s : List ℕ) (at n : ℕ) (look : List ℕ → Option ℤ) (p : Passed isSpace s at n) where
-  pub none_left : n < length s → operandsRead [] look (drop at s) ≡ none
-  unfolding operandsRead
+module _ (s : List ℕ) (at n : ℕ) (look : List ℕ → Option ℤ) (p : Passed is_space s at n) where
+  pub none_left : n < length s → operands_read [] look (drop at s) ≡ none
+  unfolding operands_read
   none_left h = ap (λ (u : List ℕ). cond (nothing u) (some []) none) (sym p.rest) ∙ ap (λ (c : Bool). cond c (some []) none) (nothing-not s n h)
 
-  pub none-there : length s ≤ n → operandsRead [] look (drop at s) ≡ some []
-  unfolding operandsRead
+  pub none-there : length s ≤ n → operands_read [] look (drop at s) ≡ some []
+  unfolding operands_read
   none-there h = ap (λ (u : List ℕ). cond (nothing u) (some []) none) (sym p.rest) ∙ ap (λ (c : Bool). cond c (some []) none) (nothing-end s n h)
 
 -- three registers do not ask what labels mean
-pub three-any : (look look' : List ℕ → Option ℤ) (t : List ℕ) → operandsRead (kindsOf R) look t ≡ operandsRead (kindsOf R) look' t
-unfolding operandsRead operandRead
+pub three-any : (look look' : List ℕ → Option ℤ) (t : List ℕ) → operands_read (kinds_of R) look t ≡ operands_read (kinds_of R) look' t
+unfolding operands_read operand_read
 three-any look look' t = refl

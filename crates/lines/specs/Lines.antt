@@ -4,29 +4,29 @@ use Rattle.std.specs.Prelude.{◌≡◌, ℕ, zero, suc, ◌+◌, true, List, []
 use Rattle.std.proofs.Math.Option.{Option, none, some}
 use Rattle.std.specs.Int.{w64}
 use Rattle.std.proofs.Common.{of_z}
-use Rattle.opcode.specs.Opcodes.{opcodeNumber, form_of}
+use Rattle.opcode.specs.Opcodes.{opcode_number, form_of}
 use Rattle.opcode.specs.declared.Opcode.{Opcode}
 use Rattle.opcode.specs.declared.Form.{Form}
 use Rattle.opcode.specs.declared.Form.TheVariants.{R, I, Shift, S, B, J, Alone}
 use Rattle.instruction.specs.declared.Parts.{Parts}
-use Rattle.words.specs.Words.{encodedIn}
+use Rattle.words.specs.Words.{encoded_in}
 use Rattle.words.specs.declared.Encoded.{Encoded}
 use Rattle.words.specs.declared.Encoded.TheVariants as E
-use Rattle.names.specs.Names.{nameOf, registerText}
-use Rattle.labels.specs.Bytes.{isName, spaces}
-use Rattle.sums.specs.Sums.{Sum, sumText, sumValue}
+use Rattle.names.specs.Names.{name_of, register_text}
+use Rattle.labels.specs.Bytes.{is_name, spaces}
+use Rattle.sums.specs.Sums.{Sum, sum_text, sum_value}
 
 pub data Kind : Type 0 where
   register immediate : Kind
 
-abbrev pub kindsOf : Form → List Kind
-kindsOf R = register ∷ (register ∷ (register ∷ []))
-kindsOf I = register ∷ (register ∷ (immediate ∷ []))
-kindsOf Shift = register ∷ (register ∷ (immediate ∷ []))
-kindsOf S = register ∷ (register ∷ (immediate ∷ []))
-kindsOf B = register ∷ (register ∷ (immediate ∷ []))
-kindsOf J = register ∷ (immediate ∷ [])
-kindsOf Alone = []
+abbrev pub kinds_of : Form → List Kind
+kinds_of R = register ∷ (register ∷ (register ∷ []))
+kinds_of I = register ∷ (register ∷ (immediate ∷ []))
+kinds_of Shift = register ∷ (register ∷ (immediate ∷ []))
+kinds_of S = register ∷ (register ∷ (immediate ∷ []))
+kinds_of B = register ∷ (register ∷ (immediate ∷ []))
+kinds_of J = register ∷ (immediate ∷ [])
+kinds_of Alone = []
 
 pub data Operand : Kind → Type 0 where
   reg : (r : ℕ) → nat_lt r 16 ≡ true → Operand register
@@ -40,43 +40,43 @@ pub data Operands : List Kind → Type 0 where
 
 pub data Line : Type 0 where
   blank : ℕ → Line
-  defines : ℕ → (name : List ℕ) → isName name ≡ true → ℕ → ℕ → Line
-  instruction : ℕ → (op : Opcode) → Operands (kindsOf (form_of op)) → ℕ → Line
+  defines : ℕ → (name : List ℕ) → is_name name ≡ true → ℕ → ℕ → Line
+  instruction : ℕ → (op : Opcode) → Operands (kinds_of (form_of op)) → ℕ → Line
 
 -- ---- the text: at least one space between a name and its first operand
-abbrev pub operandText : {k : Kind} → Operand k → List ℕ
-operandText (reg r h) = registerText r
-operandText (sum e) = sumText e
+abbrev pub operand_text : {k : Kind} → Operand k → List ℕ
+operand_text (reg r h) = register_text r
+operand_text (sum e) = sum_text e
 
-unfoldable pub operandsText : {ks : List Kind} → Operands ks → List ℕ
-operandsText without = []
-operandsText (last g o h) = spaces g ++ (operandText o ++ spaces h)
-operandsText (more g o h os) = spaces g ++ (operandText o ++ (spaces h ++ (44 ∷ operandsText os)))
+unfoldable pub operands_text : {ks : List Kind} → Operands ks → List ℕ
+operands_text without = []
+operands_text (last g o h) = spaces g ++ (operand_text o ++ spaces h)
+operands_text (more g o h os) = spaces g ++ (operand_text o ++ (spaces h ++ (44 ∷ operands_text os)))
 
-abbrev pub argumentsText : {ks : List Kind} → Operands ks → List ℕ
-argumentsText without = []
-argumentsText (last g o h) = 32 ∷ operandsText (last g o h)
-argumentsText (more g o h os) = 32 ∷ operandsText (more g o h os)
+abbrev pub arguments_text : {ks : List Kind} → Operands ks → List ℕ
+arguments_text without = []
+arguments_text (last g o h) = 32 ∷ operands_text (last g o h)
+arguments_text (more g o h os) = 32 ∷ operands_text (more g o h os)
 
-unfoldable pub lineText : Line → List ℕ
-lineText (blank g) = spaces g
-lineText (defines g name n h k) = spaces g ++ (name ++ (spaces h ++ (58 ∷ spaces k)))
-lineText (instruction g op os h) = spaces g ++ (nameOf op ++ (argumentsText os ++ spaces h))
+unfoldable pub line_text : Line → List ℕ
+line_text (blank g) = spaces g
+line_text (defines g name n h k) = spaces g ++ (name ++ (spaces h ++ (58 ∷ spaces k)))
+line_text (instruction g op os h) = spaces g ++ (name_of op ++ (arguments_text os ++ spaces h))
 
 -- ---- the word, where `look` gives the labels' values
-abbrev pub operandValue : {k : Kind} → Operand k → (List ℕ → Option ℤ) → Option ℤ
-operandValue (reg r h) look = some (pos r)
-operandValue (sum e) look = sumValue e look 16
+abbrev pub operand_value : {k : Kind} → Operand k → (List ℕ → Option ℤ) → Option ℤ
+operand_value (reg r h) look = some (pos r)
+operand_value (sum e) look = sum_value e look 16
 
 abbrev pub pushed : Option ℤ → Option (List ℤ) → Option (List ℤ)
 pushed none vs = none
 pushed (some v) none = none
 pushed (some v) (some vs) = some (v ∷ vs)
 
-unfoldable pub operandsValues : {ks : List Kind} → Operands ks → (List ℕ → Option ℤ) → Option (List ℤ)
-operandsValues without look = some []
-operandsValues (last g o h) look = pushed (operandValue o look) (some [])
-operandsValues (more g o h os) look = pushed (operandValue o look) (operandsValues os look)
+unfoldable pub operands_values : {ks : List Kind} → Operands ks → (List ℕ → Option ℤ) → Option (List ℤ)
+operands_values without look = some []
+operands_values (last g o h) look = pushed (operand_value o look) (some [])
+operands_values (more g o h os) look = pushed (operand_value o look) (operands_values os look)
 
 -- the number of an operand modulo 2^64, counted from 0
 abbrev pub bits_at : List ℤ → ℕ → ℕ
@@ -88,23 +88,23 @@ abbrev pub parts : Opcode → ℕ → ℕ → ℕ → ℕ → Parts
 parts op a b c imm = record { op = op; a = a; b = b; c = c; imm = imm }
 
 -- an instruction's operands, of the values that were written for them: 0 for those that it lacks
-unfoldable pub partsBy : Opcode → Form → List ℤ → Parts
-partsBy op R vs = parts op (bits_at vs 0) (bits_at vs 1) (bits_at vs 2) 0
-partsBy op I vs = parts op (bits_at vs 0) (bits_at vs 1) 0 (bits_at vs 2)
-partsBy op Shift vs = parts op (bits_at vs 0) (bits_at vs 1) 0 (bits_at vs 2)
-partsBy op S vs = parts op (bits_at vs 0) (bits_at vs 1) 0 (bits_at vs 2)
-partsBy op B vs = parts op (bits_at vs 0) (bits_at vs 1) 0 (bits_at vs 2)
-partsBy op J vs = parts op (bits_at vs 0) 0 0 (bits_at vs 1)
-partsBy op Alone vs = parts op 0 0 0 0
+unfoldable pub parts_by : Opcode → Form → List ℤ → Parts
+parts_by op R vs = parts op (bits_at vs 0) (bits_at vs 1) (bits_at vs 2) 0
+parts_by op I vs = parts op (bits_at vs 0) (bits_at vs 1) 0 (bits_at vs 2)
+parts_by op Shift vs = parts op (bits_at vs 0) (bits_at vs 1) 0 (bits_at vs 2)
+parts_by op S vs = parts op (bits_at vs 0) (bits_at vs 1) 0 (bits_at vs 2)
+parts_by op B vs = parts op (bits_at vs 0) (bits_at vs 1) 0 (bits_at vs 2)
+parts_by op J vs = parts op (bits_at vs 0) 0 0 (bits_at vs 1)
+parts_by op Alone vs = parts op 0 0 0 0
 
-abbrev pub wordMade : Encoded → Option ℕ
-wordMade (E.Word w) = some w
-wordMade (E.Refused r) = none
+abbrev pub word_made : Encoded → Option ℕ
+word_made (E.Word w) = some w
+word_made (E.Refused r) = none
 
 -- the word, if every value is one and fits its field
 unfoldable pub word_for : Opcode → Option (List ℤ) → Option ℕ
 word_for op none = none
-word_for op (some vs) = wordMade (encodedIn opcodeNumber (partsBy op (form_of op) vs))
+word_for op (some vs) = word_made (encoded_in opcode_number (parts_by op (form_of op) vs))
 
 -- what a line says: nothing, a label, an instruction's word, or what is wrong. `look` gives the labels' values, which in a branch
 -- or a jump are distances
@@ -114,14 +114,14 @@ pub data Saying : Type 0 where
   word : ℕ → Saying
   wrong : Saying
 
-abbrev pub sayingOf : Option ℕ → Saying
-sayingOf none = wrong
-sayingOf (some w) = word w
+abbrev pub saying_of : Option ℕ → Saying
+saying_of none = wrong
+saying_of (some w) = word w
 
-unfoldable pub lineSaying : Line → (Form → List ℕ → Option ℤ) → Saying
-lineSaying (blank g) look = empty
-lineSaying (defines g name n h k) look = named name
-lineSaying (instruction g op os h) look = sayingOf (word_for op (operandsValues os (look (form_of op))))
+unfoldable pub line_saying : Line → (Form → List ℕ → Option ℤ) → Saying
+line_saying (blank g) look = empty
+line_saying (defines g name n h k) look = named name
+line_saying (instruction g op os h) look = saying_of (word_for op (operands_values os (look (form_of op))))
 
 -- "A label means its byte address, and in a branch or Jal its distance from the instruction": where `own` instructions stand before it,
 -- the number of those from which a label is counted

@@ -1,15 +1,15 @@
 // An instruction's operands, by its form, and its word: a number, which comes back in a register, where an enum would go through memory.
 ghost use Rattle.std.specs.Prelude.{◌≡◌, ◌^◌, ◌<◌, true, [], drop};
-ghost use Rattle.opcode.specs.Opcodes.{opcodeNumber, form_of};
+ghost use Rattle.opcode.specs.Opcodes.{opcode_number, form_of};
 ghost use Rattle.opcode.specs.declared.Form.TheVariants as Form·;
 ghost use Rattle.opcode.specs.declared.Found.TheVariants as Found·;
-ghost use Rattle.words.specs.Words.{encodedIn};
+ghost use Rattle.words.specs.Words.{encoded_in};
 ghost use Rattle.std.specs.Int.{w64};
 ghost use Rattle.std.proofs.Common.{of_z};
-ghost use Rattle.sums.specs.Code.{lookIn, of64};
-ghost use Rattle.lines.specs.Lines.{kindsOf, wordMade, word_for, sayingOf};
-ghost use Rattle.lines.specs.Reader.{operandsRead, instructionRead};
-ghost use Rattle.lines.specs.Code.{isNumbered, labelsIn, wordOrWrong};
+ghost use Rattle.sums.specs.Code.{look_in, of64};
+ghost use Rattle.lines.specs.Lines.{kinds_of, word_made, word_for, saying_of};
+ghost use Rattle.lines.specs.Reader.{operands_read, instruction_read};
+ghost use Rattle.lines.specs.Code.{is_numbered, labels_in, word_or_wrong};
 
 use crate::operands::{Reg, number_last, register_comma, register_last};
 use forms::form_of;
@@ -29,7 +29,7 @@ fn wide(w: u32) -> u64
 }
 
 fn word(p: Parts) -> u64
-    ensures { sayingOf (wordMade (encodedIn opcodeNumber p)) ≡ wordOrWrong result }
+    ensures { saying_of (word_made (encoded_in opcode_number p)) ≡ word_or_wrong result }
 {
     match encode_parts(p) {
         Encoded::Word(w) => wide(w),
@@ -46,7 +46,7 @@ fn bits(v: u64) -> u64
 
 fn three_registers(s: &[u8], op: Opcode, at: usize) -> u64
     requires { form_of op ≡ Form·.R }
-    ensures { sayingOf (word_for op (operandsRead (kindsOf Form·.R) (lookIn [] [] 0) (drop at s.now))) ≡ wordOrWrong result }
+    ensures { saying_of (word_for op (operands_read (kinds_of Form·.R) (look_in [] [] 0) (drop at s.now))) ≡ word_or_wrong result }
 {
     let Reg::Of(a, m) = register_comma(s, at) else {
         return WRONG;
@@ -67,8 +67,8 @@ fn three_registers(s: &[u8], op: Opcode, at: usize) -> u64
 }
 
 fn two_and_number(s: &[u8], text: &[u8], table: &[u64], base: u64, op: Opcode, at: usize) -> u64
-    requires { isNumbered (form_of op) ≡ true }
-    ensures { sayingOf (word_for op (operandsRead (kindsOf Form·.I) (lookIn text.now table.now base) (drop at s.now))) ≡ wordOrWrong result }
+    requires { is_numbered (form_of op) ≡ true }
+    ensures { saying_of (word_for op (operands_read (kinds_of Form·.I) (look_in text.now table.now base) (drop at s.now))) ≡ word_or_wrong result }
 {
     let Reg::Of(a, m) = register_comma(s, at) else {
         return WRONG;
@@ -90,7 +90,7 @@ fn two_and_number(s: &[u8], text: &[u8], table: &[u64], base: u64, op: Opcode, a
 
 fn one_and_number(s: &[u8], text: &[u8], table: &[u64], base: u64, op: Opcode, at: usize) -> u64
     requires { form_of op ≡ Form·.J }
-    ensures { sayingOf (word_for op (operandsRead (kindsOf Form·.J) (lookIn text.now table.now base) (drop at s.now))) ≡ wordOrWrong result }
+    ensures { saying_of (word_for op (operands_read (kinds_of Form·.J) (look_in text.now table.now base) (drop at s.now))) ≡ word_or_wrong result }
 {
     let Reg::Of(a, m) = register_comma(s, at) else {
         return WRONG;
@@ -109,7 +109,7 @@ fn one_and_number(s: &[u8], text: &[u8], table: &[u64], base: u64, op: Opcode, a
 
 fn nothing_more(s: &[u8], op: Opcode, at: usize) -> u64
     requires { form_of op ≡ Form·.Alone }
-    ensures { sayingOf (word_for op (operandsRead [] (lookIn [] [] 0) (drop at s.now))) ≡ wordOrWrong result }
+    ensures { saying_of (word_for op (operands_read [] (look_in [] [] 0) (drop at s.now))) ≡ word_or_wrong result }
 {
     let n = skip(s, at);
     if n < s.len() {
@@ -133,7 +133,7 @@ pub(crate) fn instruction(
     op: Opcode,
     at: usize,
 ) -> u64
-    ensures { instructionRead (Found·.Op op) (labelsIn text.now table.now own) (drop at s.now) ≡ wordOrWrong result }
+    ensures { instruction_read (Found·.Op op) (labels_in text.now table.now own) (drop at s.now) ≡ word_or_wrong result }
 {
     let f = form_of(op);
     match f {

@@ -3,8 +3,8 @@ mod instructions; // instructions.rt: an instruction's operands and word
 mod operands; // operands.rt: registers and numbers
 
 ghost use Rattle.std.specs.Prelude.{◌≡◌};
-ghost use Rattle.lines.specs.Reader.{lineRead};
-ghost use Rattle.lines.specs.Code.{start_of, labelsIn, said_of, wordOrBad};
+ghost use Rattle.lines.specs.Reader.{line_read};
+ghost use Rattle.lines.specs.Code.{start_of, labels_in, said_of, word_or_bad};
 
 use instructions::{WRONG, instruction};
 use labels::table::name_at;
@@ -53,7 +53,7 @@ pub fn start_of(s: &[u8]) -> Start
 }
 
 fn word_or_bad(w: u64) -> Said
-    ensures { result ≡ wordOrBad w }
+    ensures { result ≡ word_or_bad w }
 {
     if w < WRONG {
         return Said::Word(w as u32);
@@ -63,7 +63,7 @@ fn word_or_bad(w: u64) -> Said
 
 // What a line of a text says, where `own` instructions stand before it.
 pub fn line(s: &[u8], text: &[u8], table: &[u64], own: u64) -> Said
-    ensures { lineRead (labelsIn text.now table.now own) s.now ≡ said_of s.now result }
+    ensures { line_read (labels_in text.now table.now own) s.now ≡ said_of s.now result }
 {
     match start_of(s) {
         Start::Blank => Said::Blank,

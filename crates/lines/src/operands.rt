@@ -1,9 +1,9 @@
 // Operands, each with the spaces around it.
 ghost use Rattle.std.specs.Prelude.{◌≡◌, ◌≤◌, [], drop};
-ghost use Rattle.sums.specs.Code.{lookIn, readTo};
+ghost use Rattle.sums.specs.Code.{look_in, read_to};
 ghost use Rattle.lines.specs.Lines.{Kind, register as Kind·register, immediate as Kind·immediate};
-ghost use Rattle.lines.specs.Reader.{registerRead};
-ghost use Rattle.lines.specs.Code.{isTwo, commaRead, lastRead, regSeen, Within};
+ghost use Rattle.lines.specs.Reader.{register_read};
+ghost use Rattle.lines.specs.Code.{is_two, comma_read, last_read, reg_seen, Within};
 
 use labels::text::{byte, digit, skip};
 use sums::{Read, sum};
@@ -17,14 +17,14 @@ pub(crate) enum Reg {
 
 // Whether two digits are those of 10 to 15.
 fn teen(a: u8, b: u8) -> bool
-    ensures { result ≡ isTwo a b }
+    ensures { result ≡ is_two a b }
 {
     (a == 49) & ((48 <= b) & (b <= 53))
 }
 
 // "R" and a number from 0 to 15.
 fn register(s: &[u8], at: usize) -> Reg
-    ensures { (registerRead (drop at s.now) ≡ regSeen s.now result) × Within s.now result }
+    ensures { (register_read (drop at s.now) ≡ reg_seen s.now result) × Within s.now result }
 {
     let c = byte(s, at);
     if c != b'R' {
@@ -43,7 +43,7 @@ fn register(s: &[u8], at: usize) -> Reg
 
 // A register with a comma after it; what is read ends after the comma.
 pub(crate) fn register_comma(s: &[u8], at: usize) -> Reg
-    ensures { (commaRead Kind·register (lookIn [] [] 0) (drop at s.now) ≡ regSeen s.now result) × Within s.now result }
+    ensures { (comma_read Kind·register (look_in [] [] 0) (drop at s.now) ≡ reg_seen s.now result) × Within s.now result }
 {
     let Reg::Of(r, m) = register(s, skip(s, at)) else {
         return Reg::Bad;
@@ -57,7 +57,7 @@ pub(crate) fn register_comma(s: &[u8], at: usize) -> Reg
 
 // A register at the end of the line.
 pub(crate) fn register_last(s: &[u8], at: usize) -> Reg
-    ensures { (lastRead Kind·register (lookIn [] [] 0) (drop at s.now) ≡ regSeen s.now result) × Within s.now result }
+    ensures { (last_read Kind·register (look_in [] [] 0) (drop at s.now) ≡ reg_seen s.now result) × Within s.now result }
 {
     let Reg::Of(r, m) = register(s, skip(s, at)) else {
         return Reg::Bad;
@@ -71,7 +71,7 @@ pub(crate) fn register_last(s: &[u8], at: usize) -> Reg
 
 // A number at the end of the line.
 pub(crate) fn number_last(s: &[u8], text: &[u8], table: &[u64], base: u64, at: usize) -> Read
-    ensures { lastRead Kind·immediate (lookIn text.now table.now base) (drop at s.now) ≡ readTo s.now result }
+    ensures { last_read Kind·immediate (look_in text.now table.now base) (drop at s.now) ≡ read_to s.now result }
 {
     let Read::Value(v, n) = sum(s, text, table, base, skip(s, at), 16) else {
         return Read::Bad;

@@ -1,16 +1,16 @@
 // One given instruction, one step, and a run with the three lists, over the bytes of a state, exported for the comparison with the
 // Rust: `execute`, `step` and `run`. Bytes that are no state's and modes other than 0 and 1 are refused (9).
 ghost use Rattle.std.specs.Prelude.{◌≡◌};
-ghost use Rattle.opcode.specs.Opcodes.{opcodeNumber, opcodeIn};
-ghost use Rattle.execute.specs.World.{worldOf};
-ghost use Rattle.execute.specs.Rules.{documentRules};
-ghost use Rattle.pending.specs.Pending.{lists, checksOf};
+ghost use Rattle.opcode.specs.Opcodes.{opcode_number, opcode_in};
+ghost use Rattle.execute.specs.World.{world_of};
+ghost use Rattle.execute.specs.Rules.{document_rules};
+ghost use Rattle.pending.specs.Pending.{lists, checks_of};
 ghost use Rattle.run.specs.Run.{run, ran};
-ghost use Rattle.layout.specs.Layout.{STATE_BYTES, stateBytes, written};
+ghost use Rattle.layout.specs.Layout.{STATE_BYTES, state_bytes, written};
 ghost use Rattle.layout.specs.Answer.{ANSWER_BYTES};
 ghost use Rattle.exports.specs.Triples.{tripled};
 ghost use Rattle.exports.specs.Coding.{given_of};
-ghost use Rattle.machines.specs.Machine.{wentTriple, checkTriple, stopBytes, legible, givenCall, executing, machineCall, stepping, running};
+ghost use Rattle.machines.specs.Machine.{went_triple, check_triple, stop_bytes, legible, given_call, executing, machine_call, stepping, running};
 
 use execute::{Choices, Mode, Went};
 use exports::coding;
@@ -37,7 +37,7 @@ fn legible(state: &[u8], mode: u64) -> bool
 }
 
 fn first_of(checks: Checks) -> Triple
-    ensures { result ≡ checkTriple (checksOf checks) }
+    ensures { result ≡ check_triple (checks_of checks) }
 {
     match checks {
         Checks::Nothing => Triple {
@@ -55,7 +55,7 @@ fn first_of(checks: Checks) -> Triple
 
 // The state after, and how a step went.
 fn leave_step(state: &mut [u8], answer: &mut [u8], after: State, went: Went)
-    ensures { (state.new ≡ written STATE_BYTES (stateBytes after) state.old) × (answer.new ≡ tripled (wentTriple went) answer.old) }
+    ensures { (state.new ≡ written STATE_BYTES (state_bytes after) state.old) × (answer.new ≡ tripled (went_triple went) answer.old) }
 {
     let stop = stop_of(went);
     let t = Triple {
@@ -80,7 +80,7 @@ pub extern "C" fn oracle_execute(
     c: u8,
     imm: u64,
 )
-    ensures { givenCall state.new memory.new answer.new check.new ≡ executing mode (given_of (opcodeIn opcodeNumber opcode) a b c imm) (givenCall state.old memory.old answer.old check.old) }
+    ensures { given_call state.new memory.new answer.new check.new ≡ executing mode (given_of (opcode_in opcode_number opcode) a b c imm) (given_call state.old memory.old answer.old check.old) }
 {
     if !legible(state, mode) {
         write_triple(answer, refused(Refusal::Malformed));
@@ -110,7 +110,7 @@ pub extern "C" fn oracle_step(
     count: usize,
     mode: u64,
 ) -> usize
-    ensures { machineCall state.new memory.new answer.new (lists result values.new bounds.new pcs.new) ≡ stepping mode (machineCall state.old memory.old answer.old (lists count values.old bounds.old pcs.old)) }
+    ensures { machine_call state.new memory.new answer.new (lists result values.new bounds.new pcs.new) ≡ stepping mode (machine_call state.old memory.old answer.old (lists count values.old bounds.old pcs.old)) }
 {
     if !legible(state, mode) {
         write_triple(answer, refused(Refusal::Malformed));
@@ -137,7 +137,7 @@ fn run_by(
     pcs: &mut [u64],
     count: usize,
 ) -> Ran
-    ensures { ran result m.new values.new bounds.new pcs.new ≡ run mode documentRules fuel (worldOf s m.old) (lists count values.old bounds.old pcs.old) }
+    ensures { ran result m.new values.new bounds.new pcs.new ≡ run mode document_rules fuel (world_of s m.old) (lists count values.old bounds.old pcs.old) }
 {
     match mode {
         Mode::Plain => run::run_plain(s, fuel, m, values, bounds, pcs, count),
@@ -147,7 +147,7 @@ fn run_by(
 
 // The state after, and how a run stopped.
 fn leave_run(state: &mut [u8], answer: &mut [u8], r: Ran)
-    ensures { (state.new ≡ written STATE_BYTES (stateBytes r.state) state.old) × (answer.new ≡ written ANSWER_BYTES (stopBytes r.stop r.steps) answer.old) }
+    ensures { (state.new ≡ written STATE_BYTES (state_bytes r.state) state.old) × (answer.new ≡ written ANSWER_BYTES (stop_bytes r.stop r.steps) answer.old) }
 {
     let stop = r.stop;
     let after = r.state;
@@ -172,7 +172,7 @@ pub extern "C" fn oracle_run(
     fuel: u64,
     mode: u64,
 ) -> usize
-    ensures { machineCall state.new memory.new answer.new (lists result values.new bounds.new pcs.new) ≡ running mode fuel (machineCall state.old memory.old answer.old (lists count values.old bounds.old pcs.old)) }
+    ensures { machine_call state.new memory.new answer.new (lists result values.new bounds.new pcs.new) ≡ running mode fuel (machine_call state.old memory.old answer.old (lists count values.old bounds.old pcs.old)) }
 {
     if !legible(state, mode) {
         write_answer(answer, 9, 0, 0);

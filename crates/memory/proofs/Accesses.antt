@@ -6,7 +6,7 @@ use native.Mathlib.Omega.{arith}
 use lib.Dec.{leb, eqb}
 use borrow.Author.Tests.{leb-true}
 use Rattle.refusal.specs.declared.Refusal.{Refusal}
-use Rattle.memory.specs.Memory.{size_of, accessOf, onAccess, store_of}
+use Rattle.memory.specs.Memory.{size_of, access_of, on_access, store_of}
 use Rattle.memory.specs.declared.Size.{Size}
 use Rattle.memory.specs.declared.Stored.TheVariants as S
 use Rattle.memory.specs.declared.Access.{Access}
@@ -14,21 +14,21 @@ use Rattle.memory.specs.declared.Access.TheVariants.{Served, Beyond, Misaligned}
 
 -- the cases of an access, from its two tests
 module _ (size len address : ℕ) where
-  pub is-mis : eqb (address % size) 0 ≡ false → Misaligned ≡ accessOf size len address
-  unfolding accessOf
+  pub is-mis : eqb (address % size) 0 ≡ false → Misaligned ≡ access_of size len address
+  unfolding access_of
   is-mis h = rw h
 
-  pub is-beyond : eqb (address % size) 0 ≡ true → leb (address + size) len ≡ false → Beyond ≡ accessOf size len address
-  unfolding accessOf
+  pub is-beyond : eqb (address % size) 0 ≡ true → leb (address + size) len ≡ false → Beyond ≡ access_of size len address
+  unfolding access_of
   is-beyond h l = rw (h, l)
 
-  pub is-served : eqb (address % size) 0 ≡ true → leb (address + size) len ≡ true → Served ≡ accessOf size len address
-  unfolding accessOf
+  pub is-served : eqb (address % size) 0 ≡ true → leb (address + size) len ≡ true → Served ≡ access_of size len address
+  unfolding access_of
   is-served h l = rw (h, l)
 
   -- a served access is within the memory
-  pub served-fits : accessOf size len address ≡ Served → address + size ≤ len
-  unfolding accessOf
+  pub served-fits : access_of size len address ≡ Served → address + size ≤ len
+  unfolding access_of
   served-fits e = within (eqb (address % size) 0) (leb (address + size) len) refl (sym e)
     where
       within : (al fits : Bool) → leb (address + size) len ≡ fits → Served ≡ cond al (cond fits Served Beyond) Misaligned → address + size ≤ len
@@ -38,24 +38,24 @@ module _ (size len address : ℕ) where
 
 -- the answer where the access is known
 module _ {A : Type 0} (served beyond mis : A) (w : Access) where
-  pub on-served : w ≡ Served → served ≡ onAccess served beyond mis w
-  unfolding onAccess
+  pub on-served : w ≡ Served → served ≡ on_access served beyond mis w
+  unfolding on_access
   on-served e = rw e
 
-  pub on-beyond : w ≡ Beyond → beyond ≡ onAccess served beyond mis w
-  unfolding onAccess
+  pub on-beyond : w ≡ Beyond → beyond ≡ on_access served beyond mis w
+  unfolding on_access
   on-beyond e = rw e
 
-  pub on-mis : w ≡ Misaligned → mis ≡ onAccess served beyond mis w
-  unfolding onAccess
+  pub on-mis : w ≡ Misaligned → mis ≡ on_access served beyond mis w
+  unfolding on_access
   on-mis e = rw e
 
 -- a store that is served is within the memory
 pub stored-fits : (size : Size) (len address : ℕ) → store_of size len address ≡ S.Done → address + size_of size ≤ len
-unfolding onAccess
-stored-fits size len address e = served-fits (size_of size) len address (served _ _ (accessOf (size_of size) len address) e)
+unfolding on_access
+stored-fits size len address e = served-fits (size_of size) len address (served _ _ (access_of (size_of size) len address) e)
   where
-    served : (q r : Refusal) (w : Access) → onAccess S.Done (S.Refused q) (S.Refused r) w ≡ S.Done → w ≡ Served
+    served : (q r : Refusal) (w : Access) → on_access S.Done (S.Refused q) (S.Refused r) w ≡ S.Done → w ≡ Served
     served q r Served e = refl
     served q r Beyond e = cc
     served q r Misaligned e = cc

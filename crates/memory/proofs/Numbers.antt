@@ -7,12 +7,12 @@ use native.Mathlib.Nat.{pow-suc, pow-le-pow_right, zero-min, min-zero, suc-min-s
 use lib.ListN.{length, take, drop, get_or, set, length-take, length-drop, length-set}
 use lib.Seq.{drop-cons, sets, sets-eq, set_out, take_at, drop_at}
 use lib.Dec.{lit<}
-use Rattle.memory.specs.Bytes.{numberOfBytes, bytes, number_at, put_at}
+use Rattle.memory.specs.Bytes.{number_of_bytes, bytes, number_at, put_at}
 
 -- one more byte read, from the top down
 pub read_more : (mem : List ℕ) (at n i : ℕ) → zero < i → i ≤ n → at + n ≤ length mem
-    → numberOfBytes (take (n - i) (drop (at + i) mem)) * 256 + get_or mem (at + (i - 1)) 0 ≡ numberOfBytes (take (n - (i - 1)) (drop (at + (i - 1)) mem))
-unfolding numberOfBytes
+    → number_of_bytes (take (n - i) (drop (at + i) mem)) * 256 + get_or mem (at + (i - 1)) 0 ≡ number_of_bytes (take (n - (i - 1)) (drop (at + (i - 1)) mem))
+unfolding number_of_bytes
 read_more mem at n i p h fits =
     let e : n - (i - 1) ≡ suc (n - i) = omega arith in
     let d : at + i ≡ suc (at + (i - 1)) = omega arith in
@@ -22,7 +22,7 @@ read_more mem at n i p h fits =
 -- four bytes read one after another
 pub read-four : (mem : List ℕ) (at : ℕ) → at + 4 ≤ length mem
     → get_or mem at 0 + get_or mem (at + 1) 0 * 256 + get_or mem (at + 2) 0 * 65536 + get_or mem (at + 3) 0 * 16777216 ≡ number_at 4 mem at
-unfolding numberOfBytes
+unfolding number_of_bytes
 read-four mem at fits =
     let e : suc at ≡ at + 1 = omega arith in
     let f : suc (at + 1) ≡ at + 2 = omega arith in
@@ -57,7 +57,7 @@ fits_lt n i v b n8 p h hv hb =
 
 -- bytes that are not there: none is read, and none is stored
 pub read-there : (n : ℕ) (m : List ℕ) (at : ℕ) → number_at n m at ≡ number_at (min n (length m - at)) m at
-read-there n m at = ap numberOfBytes (rw (← length-drop at m) (cut n (drop at m)))
+read-there n m at = ap number_of_bytes (rw (← length-drop at m) (cut n (drop at m)))
   where
     cut : (n : ℕ) (l : List ℕ) → take n l ≡ take (min n (length l)) l
     cut zero l = rw (zero-min (length l))
@@ -89,8 +89,8 @@ unfolding bytes
 length-bytes zero v = refl
 length-bytes (suc n) v = ap suc (length-bytes n (v / 256))
 
-pub number-bytes : (n v : ℕ) → v < 256 ^ n → numberOfBytes (bytes n v) ≡ v
-unfolding numberOfBytes bytes
+pub number-bytes : (n v : ℕ) → v < 256 ^ n → number_of_bytes (bytes n v) ≡ v
+unfolding number_of_bytes bytes
 number-bytes zero v h =
     let none : v < 1 = h in
     omega arith
@@ -111,11 +111,11 @@ abbrev pub Small : List ℕ → Type 0
 Small b = (k : ℕ) → get_or b k 0 < 256
 
 -- the number of some bytes, written
-pub bytes-number : (n : ℕ) (b : List ℕ) → Small b → n ≤ length b → bytes n (numberOfBytes (take n b)) ≡ take n b
-unfolding bytes numberOfBytes
+pub bytes-number : (n : ℕ) (b : List ℕ) → Small b → n ≤ length b → bytes n (number_of_bytes (take n b)) ≡ take n b
+unfolding bytes number_of_bytes
 bytes-number zero b small h = refl
 bytes-number (suc n) [] small h = absurd (omega arith)
 bytes-number (suc n) (x ∷ b) small h =
-    let low : (numberOfBytes (take n b) * 256 + x) % 256 ≡ x = omega (arith, small 0) in
-    let rest : (numberOfBytes (take n b) * 256 + x) / 256 ≡ numberOfBytes (take n b) = omega (arith, small 0) in
+    let low : (number_of_bytes (take n b) * 256 + x) % 256 ≡ x = omega (arith, small 0) in
+    let rest : (number_of_bytes (take n b) * 256 + x) / 256 ≡ number_of_bytes (take n b) = omega (arith, small 0) in
     rw (low, rest, bytes-number n b (λ k. small (suc k)) (omega arith))

@@ -7,9 +7,9 @@ abbrev pub bit : Bool → ℕ
 bit t = cond t 1 0
 
 -- the number that bytes are, the lowest first
-unfoldable pub numberOfBytes : List ℕ → ℕ
-numberOfBytes [] = 0
-numberOfBytes (b ∷ bs) = numberOfBytes bs * 256 + b
+unfoldable pub number_of_bytes : List ℕ → ℕ
+number_of_bytes [] = 0
+number_of_bytes (b ∷ bs) = number_of_bytes bs * 256 + b
 
 -- the low n bytes of a number, the lowest first
 unfoldable pub bytes : ℕ → ℕ → List ℕ
@@ -18,7 +18,7 @@ bytes (suc n) v = (v % 256) ∷ bytes n (v / 256)
 
 -- the number in the n bytes from a place on, as far as they are there
 abbrev pub number_at : ℕ → List ℕ → ℕ → ℕ
-number_at n bs at = numberOfBytes (take n (drop at bs))
+number_at n bs at = number_of_bytes (take n (drop at bs))
 
 -- the bytes with the low n bytes of v from a place on, as far as they are there
 abbrev pub put_at : ℕ → List ℕ → ℕ → ℕ → List ℕ

@@ -1,7 +1,7 @@
 // Memory is one lent slice from address 0, little-endian: loads, stores and the fetch of a word, each served or refused.
 ghost use Rattle.std.specs.Prelude.{◌≡◌, ◌+◌, ◌%◌, ◌≤◌, eqb, leb, length};
 ghost use Rattle.memory.specs.Bytes.{number_at, put_at};
-ghost use Rattle.memory.specs.Memory.{size_of, accessOf, beyondAt, load_of, store_of, memoryAfter, fetchOf};
+ghost use Rattle.memory.specs.Memory.{size_of, access_of, beyond_at, load_of, store_of, memory_after, fetch_of};
 
 use refusal::Refusal;
 
@@ -79,7 +79,7 @@ fn within(len: usize, address: u64, size: Size) -> bool
 }
 
 fn reach(len: usize, address: u64, size: Size) -> Access
-    ensures { result ≡ accessOf (size_of size) len address }
+    ensures { result ≡ access_of (size_of size) len address }
 {
     if !aligned(address, size) {
         return Access::Misaligned;
@@ -92,7 +92,7 @@ fn reach(len: usize, address: u64, size: Size) -> Access
 
 // The first byte that an access from `address` on lacks, which refusal 2 names.
 fn beyond_at(len: usize, address: u64) -> u64
-    ensures { result ≡ beyondAt len address }
+    ensures { result ≡ beyond_at len address }
 {
     let len = len as u64;
     if address < len {
@@ -151,7 +151,7 @@ fn storable(len: usize, address: u64, size: Size) -> Stored
 }
 
 fn store_sized(m: &mut [u8], address: u64, size: Size, value: u64) -> Stored
-    ensures { (result ≡ store_of size (length m.old) address) × (m.new ≡ memoryAfter size m.old address value) }
+    ensures { (result ≡ store_of size (length m.old) address) × (m.new ≡ memory_after size m.old address value) }
 {
     match storable(m.len(), address, size) {
         Stored::Done => {
@@ -164,7 +164,7 @@ fn store_sized(m: &mut [u8], address: u64, size: Size, value: u64) -> Stored
 
 // Stores the value's low bytes, as many as the size. Each size by itself, so that the compiler makes one store of the bytes.
 pub fn store(m: &mut [u8], address: u64, size: Size, value: u64) -> Stored
-    ensures { (result ≡ store_of size (length m.old) address) × (m.new ≡ memoryAfter size m.old address value) }
+    ensures { (result ≡ store_of size (length m.old) address) × (m.new ≡ memory_after size m.old address value) }
 {
     match size {
         Size::Byte => store_sized(m, address, Size::Byte, value),
@@ -175,7 +175,7 @@ pub fn store(m: &mut [u8], address: u64, size: Size, value: u64) -> Stored
 }
 
 pub fn fetch(m: &[u8], pc: u64) -> Fetched
-    ensures { result ≡ fetchOf m.now pc }
+    ensures { result ≡ fetch_of m.now pc }
 {
     match reach(m.len(), pc, Size::Word) {
         Access::Served => Fetched::Word(bytes::four_at(m, pc as usize)),

@@ -8,49 +8,49 @@ use lib.Dec.{leb}
 use lib.ListN.{get_or}
 use borrow.Author.Tests.{ne_eqb, leb-true}
 use Rattle.encoding.specs.Fields.{within}
-use Rattle.labels.specs.Bytes.{keyFrom, key_of}
-use Rattle.opcode.specs.Opcodes.{opcodeNumber, all, firstWith, opcodeIn}
+use Rattle.labels.specs.Bytes.{key_from, key_of}
+use Rattle.opcode.specs.Opcodes.{opcode_number, all, first_with, opcode_in}
 use Rattle.opcode.specs.declared.Opcode.{Opcode}
 use Rattle.opcode.specs.declared.Opcode.TheVariants as O
 use Rattle.opcode.specs.declared.Found.TheVariants.{Op, Nothing}
 use Rattle.opcode.proofs.Arms.{everywhere}
 use Rattle.opcode.proofs.Variants.{place, all-at}
-use Rattle.names.specs.Names.{nameOf, nameKey}
+use Rattle.names.specs.Names.{name_of, name_key}
 
 -- an opcode's name is found, so no two have the same
-pub found : (op : Opcode) → opcodeIn nameKey (nameKey op) ≡ Op op
-unfolding all firstWith keyFrom
-found = everywhere all O.Add place all-at (λ (op : Opcode). opcodeIn nameKey (nameKey op)) (λ (op : Opcode). Op op) refl refl
+pub found : (op : Opcode) → opcode_in name_key (name_key op) ≡ Op op
+unfolding all first_with key_from
+found = everywhere all O.Add place all-at (λ (op : Opcode). opcode_in name_key (name_key op)) (λ (op : Opcode). Op op) refl refl
 
-pub distinct : (o p : Opcode) → nameOf o ≡ nameOf p → o ≡ p
-distinct o p e = let q : Op o ≡ Op p = sym (found o) ∙ ap (λ (n : List ℕ). opcodeIn nameKey (key_of n)) e ∙ found p in cc
+pub distinct : (o p : Opcode) → name_of o ≡ name_of p → o ≡ p
+distinct o p e = let q : Op o ≡ Op p = sym (found o) ∙ ap (λ (n : List ℕ). opcode_in name_key (key_of n)) e ∙ found p in cc
 
 -- ---- the code's table
-pub numbered : (op : Opcode) → (1 ≤ opcodeNumber op) × (opcodeNumber op ≤ 50)
+pub numbered : (op : Opcode) → (1 ≤ opcode_number op) × (opcode_number op ≤ 50)
 unfolding all
 numbered op =
-    let w = everywhere all O.Add place all-at (λ (op : Opcode). within 1 50 (opcodeNumber op)) (λ (op : Opcode). true) refl refl op in
-    (leb-true 1 (opcodeNumber op) (both_true (leb 1 (opcodeNumber op)) (leb (opcodeNumber op) 50) w).0, leb-true (opcodeNumber op) 50 (both_true (leb 1 (opcodeNumber op)) (leb (opcodeNumber op) 50) w).1)
+    let w = everywhere all O.Add place all-at (λ (op : Opcode). within 1 50 (opcode_number op)) (λ (op : Opcode). true) refl refl op in
+    (leb-true 1 (opcode_number op) (both_true (leb 1 (opcode_number op)) (leb (opcode_number op) 50) w).0, leb-true (opcode_number op) 50 (both_true (leb 1 (opcode_number op)) (leb (opcode_number op) 50) w).1)
   where
     both_true : (a b : Bool) → a && b ≡ true → (a ≡ true) × (b ≡ true)
     both_true true b h = (refl, h)
     both_true false b h = absurd (let z : ◌≡◌ {A = ℕ} 0 1 = cc in omega arith)
 
-pub key-at : (op : Opcode) → get_or (map nameKey all) (opcodeNumber op - 1) 0 ≡ nameKey op
-unfolding all keyFrom
-key-at = everywhere all O.Add place all-at (λ (op : Opcode). get_or (map nameKey all) (opcodeNumber op - 1) 0) (λ (op : Opcode). nameKey op) refl refl
+pub key-at : (op : Opcode) → get_or (map name_key all) (opcode_number op - 1) 0 ≡ name_key op
+unfolding all key_from
+key-at = everywhere all O.Add place all-at (λ (op : Opcode). get_or (map name_key all) (opcode_number op - 1) 0) (λ (op : Opcode). name_key op) refl refl
 
 -- ---- a name that none of the fifty has, as a `match` finds it out: one after another
 abbrev pub NoneOf : Type 0 → List ℕ → ℕ → Type 0
 NoneOf N [] w = N
 NoneOf N (k ∷ ks) w = NoneOf (N × (w ≡ k → ⊥)) ks w
 
-none_first : (N : Type 0) (os : List Opcode) (w : ℕ) → NoneOf N (map nameKey os) w → N × (Nothing ≡ firstWith nameKey os w)
-unfolding firstWith
+none_first : (N : Type 0) (os : List Opcode) (w : ℕ) → NoneOf N (map name_key os) w → N × (Nothing ≡ first_with name_key os w)
+unfolding first_with
 none_first N [] w n = (n, refl)
 none_first N (o ∷ os) w n =
-    let r = none_first (N × (w ≡ nameKey o → ⊥)) os w n in
-    (r.0.0, r.1 ∙ sym (ap (λ (t : Bool). cond t (Op o) (firstWith nameKey os w)) (ne_eqb w (nameKey o) r.0.1)))
+    let r = none_first (N × (w ≡ name_key o → ⊥)) os w n in
+    (r.0.0, r.1 ∙ sym (ap (λ (t : Bool). cond t (Op o) (first_with name_key os w)) (ne_eqb w (name_key o) r.0.1)))
 
-pub none_named : (w : ℕ) → NoneOf (Unit {0}) (map nameKey all) w → Nothing ≡ opcodeIn nameKey w
+pub none_named : (w : ℕ) → NoneOf (Unit {0}) (map name_key all) w → Nothing ≡ opcode_in name_key w
 none_named w n = (none_first (Unit {0}) all w n).1

@@ -2,8 +2,8 @@
 mod keys; // keys.rt: the fifty
 
 ghost use Rattle.std.specs.Prelude.{◌≡◌};
-ghost use Rattle.opcode.specs.Opcodes.{opcodeIn};
-ghost use Rattle.names.specs.Names.{nameKey};
+ghost use Rattle.opcode.specs.Opcodes.{opcode_in};
+ghost use Rattle.names.specs.Names.{name_key};
 
 use opcode::{Found, Opcode, opcode_number};
 
@@ -68,14 +68,14 @@ fn place(n: u8) -> usize
 
 // The key of an opcode's name.
 pub fn name_of(op: Opcode) -> u64
-    ensures { result ≡ nameKey op }
+    ensures { result ≡ name_key op }
 {
     KEYS[place(opcode_number(op)) - 1]
 }
 
 // The opcode whose name has a key. A search in the table would copy it for each look.
 pub fn named(key: u64) -> Found
-    ensures { result ≡ opcodeIn nameKey key }
+    ensures { result ≡ opcode_in name_key key }
 {
     match key {
         keys::ADD => Found::Op(Opcode::Add),

@@ -8,67 +8,67 @@ use lib.ListN.{get_or}
 use borrow.Author.Tests.{lt-ltb, le-ltb, ne_eqb, leb-false}
 use Rattle.state.specs.Held.{low_of, high_of, waits, kept}
 use Rattle.state.specs.Registers.{Registers, holds, noted, place}
-use Rattle.state.specs.Formed.{registersOf}
-use Rattle.normalize.specs.Normalizing.{result_of, zeros, wouldOverflow, withRegisters, madeWhole, unneeded, malformed, normalizedTo, normalizeRegister, normalizeAndWrite, normalizeIfNearOverflow}
+use Rattle.state.specs.Formed.{registers_of}
+use Rattle.normalize.specs.Normalizing.{result_of, zeros, would_overflow, with_registers, made_whole, unneeded, malformed, normalized_to, normalize_register, normalize_and_write, normalize_if_near_overflow}
 use Rattle.state.specs.declared.State.{State}
 use Rattle.normalize.specs.declared.NormalizationResult.{NormalizationResult}
 
 module _ (s : State) (n : ℕ) where
-  pub whole-written : (v : ℕ) (R : Registers) → R ≡ place (n % 16) v false (noted (registersOf s) n) (registersOf s) → withRegisters s R ≡ madeWhole s n v
+  pub whole-written : (v : ℕ) (R : Registers) → R ≡ place (n % 16) v false (noted (registers_of s) n) (registers_of s) → with_registers s R ≡ made_whole s n v
   unfolding kept waits
   whole-written v R e = rw e
 
-  pub register-malformed : 16 ≤ n → malformed s ≡ normalizeRegister s n
-  unfolding normalizeRegister
+  pub register-malformed : 16 ≤ n → malformed s ≡ normalize_register s n
+  unfolding normalize_register
   register-malformed h = rw (le-ltb n 16 h)
 
-  pub register-zero : n ≡ 0 → unneeded s ≡ normalizeRegister s n
-  unfolding normalizeRegister
+  pub register-zero : n ≡ 0 → unneeded s ≡ normalize_register s n
+  unfolding normalize_register
   register-zero e = rw e
 
-  pub register-whole : n < 16 → (n ≡ 0 → ⊥) → waits (holds (registersOf s) n) ≡ false → unneeded s ≡ normalizeRegister s n
-  unfolding normalizeRegister
+  pub register-whole : n < 16 → (n ≡ 0 → ⊥) → waits (holds (registers_of s) n) ≡ false → unneeded s ≡ normalize_register s n
+  unfolding normalize_register
   register-whole h z e = rw (lt-ltb n 16 h, ne_eqb n 0 z, e)
 
-  pub register-limbs : (low high : ℕ) → n < 16 → (n ≡ 0 → ⊥) → waits (holds (registersOf s) n) ≡ true
-      → low ≡ low_of (holds (registersOf s) n) → high ≡ high_of (holds (registersOf s) n) → normalizeAndWrite s n low high ≡ normalizeRegister s n
-  unfolding normalizeRegister
+  pub register-limbs : (low high : ℕ) → n < 16 → (n ≡ 0 → ⊥) → waits (holds (registers_of s) n) ≡ true
+      → low ≡ low_of (holds (registers_of s) n) → high ≡ high_of (holds (registers_of s) n) → normalize_and_write s n low high ≡ normalize_register s n
+  unfolding normalize_register
   register-limbs low high h z e p q = rw (lt-ltb n 16 h, ne_eqb n 0 z, e, p, q)
 
-  pub near-malformed : 16 ≤ n → malformed s ≡ normalizeIfNearOverflow s n
-  unfolding normalizeIfNearOverflow
+  pub near-malformed : 16 ≤ n → malformed s ≡ normalize_if_near_overflow s n
+  unfolding normalize_if_near_overflow
   near-malformed h = rw (le-ltb n 16 h)
 
-  pub near-whole : n < 16 → waits (holds (registersOf s) n) ≡ false → unneeded s ≡ normalizeIfNearOverflow s n
-  unfolding normalizeIfNearOverflow
+  pub near-whole : n < 16 → waits (holds (registers_of s) n) ≡ false → unneeded s ≡ normalize_if_near_overflow s n
+  unfolding normalize_if_near_overflow
   near-whole h e = rw (lt-ltb n 16 h, e)
 
-  pub near-limbs : (t : Bool) → n < 16 → waits (holds (registersOf s) n) ≡ true
-      → wouldOverflow (low_of (holds (registersOf s) n)) (high_of (holds (registersOf s) n)) ≡ t
-      → cond t (normalizeRegister s n) (unneeded s) ≡ normalizeIfNearOverflow s n
-  unfolding normalizeIfNearOverflow
+  pub near-limbs : (t : Bool) → n < 16 → waits (holds (registers_of s) n) ≡ true
+      → would_overflow (low_of (holds (registers_of s) n)) (high_of (holds (registers_of s) n)) ≡ t
+      → cond t (normalize_register s n) (unneeded s) ≡ normalize_if_near_overflow s n
+  unfolding normalize_if_near_overflow
   near-limbs t h e f = rw (lt-ltb n 16 h, e, f)
 
   module _ (low high : ℕ) where
-    pub write-malformed : 16 ≤ n → malformed s ≡ normalizeAndWrite s n low high
-    unfolding normalizeAndWrite
+    pub write-malformed : 16 ≤ n → malformed s ≡ normalize_and_write s n low high
+    unfolding normalize_and_write
     write-malformed h = rw (le-ltb n 16 h)
 
-    pub write-zero : n ≡ 0 → normalizedTo zeros s ≡ normalizeAndWrite s n low high
-    unfolding normalizeAndWrite
+    pub write-zero : n ≡ 0 → normalized_to zeros s ≡ normalize_and_write s n low high
+    unfolding normalize_and_write
     write-zero e = rw e
 
-    pub write-large : n < 16 → (n ≡ 0 → ⊥) → wouldOverflow low high ≡ true → malformed s ≡ normalizeAndWrite s n low high
-    unfolding normalizeAndWrite
+    pub write-large : n < 16 → (n ≡ 0 → ⊥) → would_overflow low high ≡ true → malformed s ≡ normalize_and_write s n low high
+    unfolding normalize_and_write
     write-large h z e = rw (lt-ltb n 16 h, ne_eqb n 0 z, e)
 
-    pub write_done : (r : NormalizationResult) (t : State) → n < 16 → (n ≡ 0 → ⊥) → wouldOverflow low high ≡ false
-        → r ≡ result_of low high → t ≡ madeWhole s n (get_or r.normalized 0 0 + 2 ^ 20 * get_or r.normalized 1 0)
-        → normalizedTo r t ≡ normalizeAndWrite s n low high
-    unfolding normalizeAndWrite
+    pub write_done : (r : NormalizationResult) (t : State) → n < 16 → (n ≡ 0 → ⊥) → would_overflow low high ≡ false
+        → r ≡ result_of low high → t ≡ made_whole s n (get_or r.normalized 0 0 + 2 ^ 20 * get_or r.normalized 1 0)
+        → normalized_to r t ≡ normalize_and_write s n low high
+    unfolding normalize_and_write
     write_done r t h z e p q = rw (lt-ltb n 16 h, ne_eqb n 0 z, e, q, p)
 
-pub none-large : (low high : ℕ) → wouldOverflow low high ≡ false → (low < 2 ^ 30) × (high < 2 ^ 30)
+pub none-large : (low high : ℕ) → would_overflow low high ≡ false → (low < 2 ^ 30) × (high < 2 ^ 30)
 none-large low high e = both (leb (2 ^ 30) low) (leb (2 ^ 30) high) refl refl e
   where
     both : (t u : Bool) → leb (2 ^ 30) low ≡ t → leb (2 ^ 30) high ≡ u → (t || u) ≡ false → (low < 2 ^ 30) × (high < 2 ^ 30)

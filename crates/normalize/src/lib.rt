@@ -1,6 +1,6 @@
 // normalize.rs, over a state by value, at limbs of 20 and 30 bits.
 ghost use Rattle.std.specs.Prelude.{◌≡◌, ◌<◌, ◌+◌, ◌*◌, ◌^◌, get_or};
-ghost use Rattle.normalize.specs.Normalizing.{result_of, zeros, madeWhole, unneeded, malformed, hasCarries, totalCarry, wouldOverflow, normalizeAndWrite, normalizeRegister, normalizeIfNearOverflow};
+ghost use Rattle.normalize.specs.Normalizing.{result_of, zeros, made_whole, unneeded, malformed, has_carries, total_carry, would_overflow, normalize_and_write, normalize_register, normalize_if_near_overflow};
 
 use refusal::Refusal;
 use state::{State, registers};
@@ -28,7 +28,7 @@ pub struct Normalized {
 }
 
 pub fn has_carries(r: NormalizationResult) -> bool
-    ensures { result ≡ hasCarries r }
+    ensures { result ≡ has_carries r }
 {
     let carries = r.carries;
     if carries[0] != 0 {
@@ -45,14 +45,14 @@ fn wide(x: u32) -> u64
 
 // Not the carry out of the register, which is carries[1] alone: carries[0] went into the high limb.
 pub fn total_carry(r: NormalizationResult) -> u64
-    ensures { result ≡ totalCarry r }
+    ensures { result ≡ total_carry r }
 {
     let carries = r.carries;
     wide(carries[0]) + wide(carries[1]) * 0x10_0000
 }
 
 pub fn would_overflow(low: u64, high: u64) -> bool
-    ensures { result ≡ wouldOverflow low high }
+    ensures { result ≡ would_overflow low high }
 {
     if 0x4000_0000 <= low {
         return true;
@@ -115,7 +115,7 @@ fn joined(r: NormalizationResult) -> u64
 
 // The state with a register made whole, which keeps its bound.
 fn made_whole(s: State, reg: u8, v: u64) -> State
-    ensures { result ≡ madeWhole s reg v }
+    ensures { result ≡ made_whole s reg v }
 {
     let mut regs = s.regs;
     let mut accumulated = s.accumulated;
@@ -135,7 +135,7 @@ fn made_whole(s: State, reg: u8, v: u64) -> State
 
 // Normalises limbs and writes them to a register, which keeps its bound.
 pub fn normalize_and_write(s: State, reg: u8, low: u64, high: u64) -> Normalized
-    ensures { result ≡ normalizeAndWrite s reg low high }
+    ensures { result ≡ normalize_and_write s reg low high }
 {
     if 16 <= reg {
         return malformed(s);
@@ -160,7 +160,7 @@ pub fn normalize_and_write(s: State, reg: u8, low: u64, high: u64) -> Normalized
 
 // Normalises one register, if it is accumulated.
 pub fn normalize_register(s: State, reg: u8) -> Normalized
-    ensures { result ≡ normalizeRegister s reg }
+    ensures { result ≡ normalize_register s reg }
 {
     if 16 <= reg {
         return malformed(s);
@@ -181,7 +181,7 @@ pub fn normalize_register(s: State, reg: u8) -> Normalized
 // Normalises a register whose limbs don't fit in 30 bits. The Rust's does; here that is a refusal, since no register may hold such
 // limbs.
 pub fn normalize_if_near_overflow(s: State, reg: u8) -> Normalized
-    ensures { result ≡ normalizeIfNearOverflow s reg }
+    ensures { result ≡ normalize_if_near_overflow s reg }
 {
     if 16 <= reg {
         return malformed(s);

@@ -10,7 +10,7 @@ use lib.Dec.{T, eqb, ltb, leb, eqb→eq}
 use mir.Facts.{and_yes}
 use borrow.Author.Tests.{eq-eqb, ne_eqb, eqb-true, ltb-true, leb-true}
 use Rattle.encoding.specs.Fields.{within}
-use Rattle.opcode.specs.Opcodes.{opcodeNumber, all, firstWith, opcodeIn}
+use Rattle.opcode.specs.Opcodes.{opcode_number, all, first_with, opcode_in}
 use Rattle.opcode.specs.declared.Opcode.{Opcode}
 use Rattle.opcode.specs.declared.Opcode.TheVariants as O
 use Rattle.opcode.specs.declared.Found.{Found}
@@ -22,25 +22,25 @@ pub record Numbering (num : Opcode → ℕ) : Type 0 where
   pub distinct : (o p : Opcode) → num o ≡ num p → o ≡ p
   pub below : (o : Opcode) → num o < 128
 
-abbrev pub isOp : Found → Bool
-isOp (Op op) = true
-isOp Nothing = false
+abbrev pub is_op : Found → Bool
+is_op (Op op) = true
+is_op Nothing = false
 
 module _ (num : Opcode → ℕ) where
   found_at : Numbering num → (os : List Opcode) (op : Opcode) (k : ℕ) → k < length os → get_or os k O.Add ≡ op
-      → firstWith num os (num op) ≡ Op op
-  unfolding firstWith
+      → first_with num os (num op) ≡ Op op
+  unfolding first_with
   found_at N [] op k h e = absurd (not-suc-le-zero h)
   found_at N (o ∷ os) op zero h e = rw (eq-eqb (num op) (num o) (ap num (sym e))) (ap Op e)
   found_at N (o ∷ os) op (suc k) h e = by (eqb (num op) (num o)) refl (found_at N os op k (omega arith) e)
     where
-      by : (t : Bool) → eqb (num op) (num o) ≡ t → firstWith num os (num op) ≡ Op op
-          → cond t (Op o) (firstWith num os (num op)) ≡ Op op
+      by : (t : Bool) → eqb (num op) (num o) ≡ t → first_with num os (num op) ≡ Op op
+          → cond t (Op o) (first_with num os (num op)) ≡ Op op
       by true q r = ap Op (sym (N.distinct op o (eqb-true _ _ q)))
       by false q r = r
 
   -- the opcode of an opcode's number is that opcode
-  pub found : Numbering num → (op : Opcode) → opcodeIn num (num op) ≡ Op op
+  pub found : Numbering num → (op : Opcode) → opcode_in num (num op) ≡ Op op
   unfolding all
   found N op = found_at N all op (place op) (ltb-true _ _ (small op)) (all-at op)
     where
@@ -48,13 +48,13 @@ module _ (num : Opcode → ℕ) where
       small = everywhere all O.Add place all-at (λ (op : Opcode). ltb (place op) 50) (λ (op : Opcode). true) refl refl
 
   -- an opcode found for a number has that number, whatever the numbers are
-  pub number-found : (os : List Opcode) (n : ℕ) (op : Opcode) → firstWith num os n ≡ Op op → num op ≡ n
-  unfolding firstWith
+  pub number-found : (os : List Opcode) (n : ℕ) (op : Opcode) → first_with num os n ≡ Op op → num op ≡ n
+  unfolding first_with
   number-found [] n op e = let z : ◌≡◌ {A = ℕ} 0 1 = cc in absurd (omega arith)
   number-found (o ∷ os) n op e = by (eqb n (num o)) refl (number-found os n op) e
     where
-      by : (t : Bool) → eqb n (num o) ≡ t → (firstWith num os n ≡ Op op → num op ≡ n)
-          → cond t (Op o) (firstWith num os n) ≡ Op op → num op ≡ n
+      by : (t : Bool) → eqb n (num o) ≡ t → (first_with num os n ≡ Op op → num op ≡ n)
+          → cond t (Op o) (first_with num os n) ≡ Op op → num op ≡ n
       by true q r e = let s : o ≡ op = cc in ap num (sym s) ∙ sym (eqb-true n (num o) q)
       by false q r e = r e
 
@@ -63,35 +63,35 @@ module _ (num : Opcode → ℕ) where
   Unlike U [] n = U
   Unlike U (o ∷ os) n = Unlike (U × (n ≡ num o → ⊥)) os n
 
-  late : (U : Type 0) (os ps : List Opcode) (n : ℕ) → Unlike U os n → U × (firstWith num (os ++ ps) n ≡ firstWith num ps n)
-  unfolding firstWith
+  late : (U : Type 0) (os ps : List Opcode) (n : ℕ) → Unlike U os n → U × (first_with num (os ++ ps) n ≡ first_with num ps n)
+  unfolding first_with
   late U [] ps n u = (u, refl)
   late U (o ∷ os) ps n u =
       let h = late (U × (n ≡ num o → ⊥)) os ps n u in
       (h.0.0, rw (ne_eqb n (num o) h.0.1) h.1)
 
   -- and so it is the last one's, if it is one's at all
-  pub last : (os : List Opcode) (o : Opcode) (n : ℕ) → Unlike (Unit {0}) os n → isOp (firstWith num (os ++ (o ∷ [])) n) ≡ true
-      → Op o ≡ firstWith num (os ++ (o ∷ [])) n
-  unfolding firstWith
+  pub last : (os : List Opcode) (o : Opcode) (n : ℕ) → Unlike (Unit {0}) os n → is_op (first_with num (os ++ (o ∷ [])) n) ≡ true
+      → Op o ≡ first_with num (os ++ (o ∷ [])) n
+  unfolding first_with
   last os o n u e =
       let s = (late (Unit {0}) os (o ∷ []) n u).1 in
-      by (eqb n (num o)) (ap isOp (sym s) ∙ e) ∙ sym s
+      by (eqb n (num o)) (ap is_op (sym s) ∙ e) ∙ sym s
     where
-      by : (t : Bool) → isOp (cond t (Op o) Nothing) ≡ true → Op o ≡ cond t (Op o) Nothing
+      by : (t : Bool) → is_op (cond t (Op o) Nothing) ≡ true → Op o ≡ cond t (Op o) Nothing
       by true e = refl
       by false e = let z : ◌≡◌ {A = ℕ} 0 1 = cc in absurd (omega arith)
 
-pub opcodeNumber-numbers : Numbering opcodeNumber
+pub opcode_number-numbers : Numbering opcode_number
 unfolding all
-opcodeNumber-numbers =
+opcode_number-numbers =
     record {
       distinct = λ o p e. sym (again o) ∙ ap (λ (n : ℕ). get_or all (n - 1) O.Add) e ∙ again p;
-      below = λ o. ltb-true _ _ (everywhere all O.Add place all-at (λ (op : Opcode). ltb (opcodeNumber op) 128) (λ (op : Opcode). true) refl refl o);
+      below = λ o. ltb-true _ _ (everywhere all O.Add place all-at (λ (op : Opcode). ltb (opcode_number op) 128) (λ (op : Opcode). true) refl refl o);
     }
   where
-    again : (op : Opcode) → get_or all (opcodeNumber op - 1) O.Add ≡ op
-    again = everywhere all O.Add place all-at (λ (op : Opcode). get_or all (opcodeNumber op - 1) O.Add) (λ (op : Opcode). op) refl refl
+    again : (op : Opcode) → get_or all (opcode_number op - 1) O.Add ≡ op
+    again = everywhere all O.Add place all-at (λ (op : Opcode). get_or all (opcode_number op - 1) O.Add) (λ (op : Opcode). op) refl refl
 
 -- ---- "opcode 0 or over 50" has none
 
@@ -106,35 +106,35 @@ counted n (x ∷ xs) t (suc k) d h =
     let p = and_yes (eqb x n) (counts (suc n) xs) t in
     counted (suc n) xs p.1 k d (omega arith) ∙ omega arith
 
-number_at : (n : ℕ) → 1 ≤ n → n ≤ 50 → opcodeNumber (get_or all (n - 1) O.Add) ≡ n
+number_at : (n : ℕ) → 1 ≤ n → n ≤ 50 → opcode_number (get_or all (n - 1) O.Add) ≡ n
 unfolding all
 number_at n l h =
-    sym (get_or-map opcodeNumber all (n - 1) O.Add) ∙ counted 1 (map opcodeNumber all) tt (n - 1) 1 (omega arith) ∙ omega arith
+    sym (get_or-map opcode_number all (n - 1) O.Add) ∙ counted 1 (map opcode_number all) tt (n - 1) 1 (omega arith) ∙ omega arith
 
-pub valid : (n : ℕ) → isOp (opcodeIn opcodeNumber n) ≡ within 1 50 n
+pub valid : (n : ℕ) → is_op (opcode_in opcode_number n) ≡ within 1 50 n
 unfolding all
-valid n = by (opcodeIn opcodeNumber n) refl
+valid n = by (opcode_in opcode_number n) refl
   where
-    small : (op : Opcode) → within 1 50 (opcodeNumber op) ≡ true
-    small = everywhere all O.Add place all-at (λ (op : Opcode). within 1 50 (opcodeNumber op)) (λ (op : Opcode). true) refl refl
+    small : (op : Opcode) → within 1 50 (opcode_number op) ≡ true
+    small = everywhere all O.Add place all-at (λ (op : Opcode). within 1 50 (opcode_number op)) (λ (op : Opcode). true) refl refl
 
-    none-valid : opcodeIn opcodeNumber n ≡ Nothing → (t u : Bool) → leb 1 n ≡ t → leb n 50 ≡ u → false ≡ t && u
+    none-valid : opcode_in opcode_number n ≡ Nothing → (t u : Bool) → leb 1 n ≡ t → leb n 50 ≡ u → false ≡ t && u
     none-valid e true true p q =
         let o = number_at n (leb-true 1 n p) (leb-true n 50 q) in
-        let f = found opcodeNumber opcodeNumber-numbers (get_or all (n - 1) O.Add) in
-        let g : Op (get_or all (n - 1) O.Add) ≡ Nothing = sym f ∙ ap (opcodeIn opcodeNumber) o ∙ e in
+        let f = found opcode_number opcode_number-numbers (get_or all (n - 1) O.Add) in
+        let g : Op (get_or all (n - 1) O.Add) ≡ Nothing = sym f ∙ ap (opcode_in opcode_number) o ∙ e in
         let z : ◌≡◌ {A = ℕ} 0 1 = cc in
         absurd (omega arith)
     none-valid e true false p q = refl
     none-valid e false u p q = refl
 
-    by : (o : Found) → opcodeIn opcodeNumber n ≡ o → isOp o ≡ within 1 50 n
-    by (Op op) e = sym (small op) ∙ ap (within 1 50) (number-found opcodeNumber all n op e)
+    by : (o : Found) → opcode_in opcode_number n ≡ o → is_op o ≡ within 1 50 n
+    by (Op op) e = sym (small op) ∙ ap (within 1 50) (number-found opcode_number all n op e)
     by Nothing e = none-valid e (leb 1 n) (leb n 50) refl refl
 
-pub no-opcode : (n : ℕ) → within 1 50 n ≡ false → Nothing ≡ opcodeIn opcodeNumber n
-no-opcode n e = by (opcodeIn opcodeNumber n) (valid n ∙ e)
+pub no-opcode : (n : ℕ) → within 1 50 n ≡ false → Nothing ≡ opcode_in opcode_number n
+no-opcode n e = by (opcode_in opcode_number n) (valid n ∙ e)
   where
-    by : (o : Found) → isOp o ≡ false → Nothing ≡ o
+    by : (o : Found) → is_op o ≡ false → Nothing ≡ o
     by (Op op) e = let z : ◌≡◌ {A = ℕ} 0 1 = cc in absurd (omega arith)
     by Nothing e = refl

@@ -68,8 +68,8 @@ row_of O.Jalr = row 48 I
 row_of O.Ecall = row 49 Alone
 row_of O.Ebreak = row 50 Alone
 
-abbrev pub opcodeNumber : Opcode → ℕ
-opcodeNumber op = (row_of op).number
+abbrev pub opcode_number : Opcode → ℕ
+opcode_number op = (row_of op).number
 
 abbrev pub form_of : Opcode → Form
 form_of op = (row_of op).form
@@ -82,10 +82,10 @@ all =
     O.Lb ∷ O.Lbu ∷ O.Lh ∷ O.Lhu ∷ O.Lw ∷ O.Ld ∷ O.Sb ∷ O.Sh ∷ O.Sw ∷ O.Sd ∷
     O.Beq ∷ O.Bne ∷ O.Blt ∷ O.Bge ∷ O.Bltu ∷ O.Bgeu ∷ O.Jal ∷ O.Jalr ∷ O.Ecall ∷ O.Ebreak ∷ []
 
--- the opcode that has a number, in a numbering of the fifty; document 01's is `opcodeNumber`
-unfoldable pub firstWith : (Opcode → ℕ) → List Opcode → ℕ → Found
-firstWith num [] n = Nothing
-firstWith num (o ∷ os) n = cond (eqb n (num o)) (Op o) (firstWith num os n)
+-- the opcode that has a number, in a numbering of the fifty; document 01's is `opcode_number`
+unfoldable pub first_with : (Opcode → ℕ) → List Opcode → ℕ → Found
+first_with num [] n = Nothing
+first_with num (o ∷ os) n = cond (eqb n (num o)) (Op o) (first_with num os n)
 
-abbrev pub opcodeIn : (Opcode → ℕ) → ℕ → Found
-opcodeIn num n = firstWith num all n
+abbrev pub opcode_in : (Opcode → ℕ) → ℕ → Found
+opcode_in num n = first_with num all n

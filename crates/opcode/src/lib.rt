@@ -1,7 +1,7 @@
 // The fifty opcodes (document 01, "Words") and their numbers, and the forms that words have.
 ghost use Rattle.std.specs.Prelude.{◌≡◌, true, eqb};
 ghost use Rattle.encoding.specs.Fields.{within};
-ghost use Rattle.opcode.specs.Opcodes.{opcodeNumber, opcodeIn};
+ghost use Rattle.opcode.specs.Opcodes.{opcode_number, opcode_in};
 
 // The fifty, in document 01's order.
 #[derive(Drop)]
@@ -78,7 +78,7 @@ pub enum Found {
 }
 
 pub fn opcode_number(op: Opcode) -> u8
-    ensures { result ≡ opcodeNumber op }
+    ensures { result ≡ opcode_number op }
 {
     match op {
         Opcode::Add => 1,
@@ -137,7 +137,7 @@ pub fn opcode_number(op: Opcode) -> u8
 // Of a number that has one.
 fn opcode_at(n: u8) -> Opcode
     requires { within 1 50 n ≡ true }
-    ensures { Found.Op result ≡ opcodeIn opcodeNumber n }
+    ensures { Found.Op result ≡ opcode_in opcode_number n }
 {
     match n {
         1 => Opcode::Add,
@@ -194,14 +194,14 @@ fn opcode_at(n: u8) -> Opcode
 }
 
 pub fn same(a: Opcode, b: Opcode) -> bool
-    ensures { result ≡ eqb (opcodeNumber a) (opcodeNumber b) }
+    ensures { result ≡ eqb (opcode_number a) (opcode_number b) }
 {
     opcode_number(a) == opcode_number(b)
 }
 
 // One range test when compiled: the variants stand in the order of their numbers.
 pub fn opcode_of(n: u8) -> Found
-    ensures { result ≡ opcodeIn opcodeNumber n }
+    ensures { result ≡ opcode_in opcode_number n }
 {
     if (1 <= n) & (n <= 50) {
         Found::Op(opcode_at(n))

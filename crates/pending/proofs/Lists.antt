@@ -7,8 +7,8 @@ use lib.ListN.{length, set, get_or}
 use native.Mathlib.Omega.{arith}
 use lib.Dec.{leb, eqb}
 use borrow.Author.Tests.{lt-ltb, le-ltb, ltb-true, eqb-true, eq-eqb, ne_eqb, leb-true}
-use Rattle.refusal.specs.Stops.{refusalOf}
-use Rattle.pending.specs.Pending.{Lists, lists, Check, listing, listsFit, room_at, roomOf, lacks, appended, appendAnswer, appendLists, emptyAnswer, emptyLists, entry_at}
+use Rattle.refusal.specs.Stops.{refusal_of}
+use Rattle.pending.specs.Pending.{Lists, lists, Check, listing, lists_fit, room_at, room_of, lacks, appended, append_answer, append_lists, empty_answer, empty_lists, entry_at}
 use Rattle.pending.specs.declared.Room.TheVariants.{Unlent, Left}
 use Rattle.pending.specs.declared.Counted.TheVariants as N
 use Rattle.pending.specs.declared.Entry.TheVariants as E
@@ -40,43 +40,43 @@ module _ (v b pc : ℕ) (l : Lists) where
   unfolding appended
   a-place h = rw (lt-ltb l.count (length l.values) h)
 
-  pub append-malformed : listsFit l ≡ false → (N.Refused (refusalOf 9 0) ≡ appendAnswer v b pc l) × (appendLists v b pc l ≡ l)
-  unfolding appendAnswer appendLists
+  pub append-malformed : lists_fit l ≡ false → (N.Refused (refusal_of 9 0) ≡ append_answer v b pc l) × (append_lists v b pc l ≡ l)
+  unfolding append_answer append_lists
   append-malformed e = rw e (refl, refl)
 
-  pub append-full : listsFit l ≡ true → lacks (roomOf l) 1 ≡ true → (N.Refused (refusalOf 8 pc) ≡ appendAnswer v b pc l) × (appendLists v b pc l ≡ l)
-  unfolding appendAnswer appendLists
+  pub append-full : lists_fit l ≡ true → lacks (room_of l) 1 ≡ true → (N.Refused (refusal_of 8 pc) ≡ append_answer v b pc l) × (append_lists v b pc l ≡ l)
+  unfolding append_answer append_lists
   append-full e f = rw (e, f) (refl, sym (no_place (no_room (length l.values) l.count f)))
 
-  pub append-done : listsFit l ≡ true → lacks (roomOf l) 1 ≡ false
-      → (N.Count (appended v b pc l).count ≡ appendAnswer v b pc l) × (appendLists v b pc l ≡ appended v b pc l)
-  unfolding appendAnswer appendLists
+  pub append-done : lists_fit l ≡ true → lacks (room_of l) 1 ≡ false
+      → (N.Count (appended v b pc l).count ≡ append_answer v b pc l) × (append_lists v b pc l ≡ appended v b pc l)
+  unfolding append_answer append_lists
   append-done e f = rw (e, f) (refl, refl)
 
 module _ (l : Lists) where
-  pub empty-malformed : listsFit l ≡ false → (N.Refused (refusalOf 9 0) ≡ emptyAnswer l) × (l ≡ emptyLists l)
-  unfolding emptyAnswer emptyLists
+  pub empty-malformed : lists_fit l ≡ false → (N.Refused (refusal_of 9 0) ≡ empty_answer l) × (l ≡ empty_lists l)
+  unfolding empty_answer empty_lists
   empty-malformed e = rw e (refl, refl)
 
-  pub empty-done : listsFit l ≡ true → (N.Count 0 ≡ emptyAnswer l) × (lists 0 l.values l.bounds l.pcs ≡ emptyLists l)
-  unfolding emptyAnswer emptyLists
+  pub empty-done : lists_fit l ≡ true → (N.Count 0 ≡ empty_answer l) × (lists 0 l.values l.bounds l.pcs ≡ empty_lists l)
+  unfolding empty_answer empty_lists
   empty-done e = rw e (refl, refl)
 
 module _ (n : ℕ) (l : Lists) where
-  pub entry-malformed : listsFit l ≡ false → E.Refused (refusalOf 9 0) ≡ entry_at n l
+  pub entry-malformed : lists_fit l ≡ false → E.Refused (refusal_of 9 0) ≡ entry_at n l
   unfolding entry_at
   entry-malformed e = rw e
 
-  pub entry-beyond : listsFit l ≡ true → l.count ≤ n → E.Nothing ≡ entry_at n l
+  pub entry-beyond : lists_fit l ≡ true → l.count ≤ n → E.Nothing ≡ entry_at n l
   unfolding entry_at
   entry-beyond e h = rw (e, le-ltb n l.count h)
 
-  pub entry-there : listsFit l ≡ true → n < l.count → E.Check (get_or l.values n 0) (get_or l.bounds n 0) (get_or l.pcs n 0) ≡ entry_at n l
+  pub entry-there : lists_fit l ≡ true → n < l.count → E.Check (get_or l.values n 0) (get_or l.bounds n 0) (get_or l.pcs n 0) ≡ entry_at n l
   unfolding entry_at
   entry-there e h = rw (e, lt-ltb n l.count h)
 
 -- the test, as facts
-pub fits-mean : (l : Lists) → listsFit l ≡ true
+pub fits-mean : (l : Lists) → lists_fit l ≡ true
     → (length l.bounds ≡ length l.values) × (length l.pcs ≡ length l.values) × (l.count ≤ length l.values)
 fits-mean l e = told (eqb (length l.bounds) (length l.values)) (eqb (length l.pcs) (length l.values)) refl refl e
   where
@@ -96,7 +96,7 @@ no-list-lent len count e = told (eqb len 0) refl e
     told true q f = eqb-true _ _ q
     told false q f = let z : ◌≡◌ {A = ℕ} 0 1 = cc in absurd (omega arith)
 
-pub unlent-stays : (cs : List Check) (pc : ℕ) (l : Lists) → roomOf l ≡ Unlent → listing cs pc l ≡ l
+pub unlent-stays : (cs : List Check) (pc : ℕ) (l : Lists) → room_of l ≡ Unlent → listing cs pc l ≡ l
 unfolding listing
 unlent-stays [] pc l e = refl
 unlent-stays (c ∷ cs) pc l e =

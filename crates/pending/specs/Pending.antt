@@ -1,6 +1,6 @@
 -- Pending checks: three lists of numbers and a count. Empty lists mean that none is lent.
 use Rattle.std.specs.Prelude.{ℕ, ◌+◌, ◌-◌, Bool, false, cond, ◌&&◌, List, [], ◌∷◌, length, get_or, set, ltb, leb, eqb}
-use Rattle.refusal.specs.Stops.{refusalOf}
+use Rattle.refusal.specs.Stops.{refusal_of}
 use Rattle.pending.specs.declared.Checks.{Checks}
 use Rattle.pending.specs.declared.Checks.TheVariants as C
 use Rattle.pending.specs.declared.Room.{Room}
@@ -20,22 +20,22 @@ abbrev pub lists : ℕ → List ℕ → List ℕ → List ℕ → Lists
 lists n vs bs ps = record { count = n; values = vs; bounds = bs; pcs = ps }
 
 -- no list is lent
-abbrev pub noLists : Lists
-noLists = lists 0 [] [] []
+abbrev pub no_lists : Lists
+no_lists = lists 0 [] [] []
 
 -- "Lists of unequal length, or a count beyond them, are malformed"
-abbrev pub lengthsFit : ℕ → ℕ → ℕ → ℕ → Bool
-lengthsFit values bounds pcs count = eqb bounds values && eqb pcs values && leb count values
+abbrev pub lengths_fit : ℕ → ℕ → ℕ → ℕ → Bool
+lengths_fit values bounds pcs count = eqb bounds values && eqb pcs values && leb count values
 
-abbrev pub listsFit : Lists → Bool
-listsFit l = lengthsFit (length l.values) (length l.bounds) (length l.pcs) l.count
+abbrev pub lists_fit : Lists → Bool
+lists_fit l = lengths_fit (length l.values) (length l.bounds) (length l.pcs) l.count
 
 -- how many checks more the lists take, by their length and the count; any number where none is lent
 unfoldable pub room_at : ℕ → ℕ → Room
 room_at len count = cond (eqb len 0) Unlent (Left (len - count))
 
-abbrev pub roomOf : Lists → Room
-roomOf l = room_at (length l.values) l.count
+abbrev pub room_of : Lists → Room
+room_of l = room_at (length l.values) l.count
 
 -- whether n checks don't fit
 unfoldable pub lacks : Room → ℕ → Bool
@@ -57,32 +57,32 @@ pub record Check : Type 0 where
 abbrev pub check : ℕ → ℕ → Check
 check v b = record { value = v; bound = b }
 
-abbrev pub checksOf : Checks → List Check
-checksOf C.Nothing = []
-checksOf (C.One b v) = check v b ∷ []
+abbrev pub checks_of : Checks → List Check
+checks_of C.Nothing = []
+checks_of (C.One b v) = check v b ∷ []
 
 unfoldable pub listing : List Check → ℕ → Lists → Lists
 listing [] pc l = l
 listing (c ∷ cs) pc l = listing cs pc (appended c.value c.bound pc l)
 
 -- appending by itself: 9 for malformed lists, 8 where a list is lent and full
-unfoldable pub appendAnswer : ℕ → ℕ → ℕ → Lists → Counted
-appendAnswer v b pc l =
-    cond (listsFit l) (cond (lacks (roomOf l) 1) (N.Refused (refusalOf 8 pc)) (N.Count (appended v b pc l).count)) (N.Refused (refusalOf 9 0))
+unfoldable pub append_answer : ℕ → ℕ → ℕ → Lists → Counted
+append_answer v b pc l =
+    cond (lists_fit l) (cond (lacks (room_of l) 1) (N.Refused (refusal_of 8 pc)) (N.Count (appended v b pc l).count)) (N.Refused (refusal_of 9 0))
 
-unfoldable pub appendLists : ℕ → ℕ → ℕ → Lists → Lists
-appendLists v b pc l = cond (listsFit l) (appended v b pc l) l
+unfoldable pub append_lists : ℕ → ℕ → ℕ → Lists → Lists
+append_lists v b pc l = cond (lists_fit l) (appended v b pc l) l
 
 -- "Emptying the list makes its room usable again"; the entries stay where they are. 9 for malformed lists
-unfoldable pub emptyAnswer : Lists → Counted
-emptyAnswer l = cond (listsFit l) (N.Count 0) (N.Refused (refusalOf 9 0))
+unfoldable pub empty_answer : Lists → Counted
+empty_answer l = cond (lists_fit l) (N.Count 0) (N.Refused (refusal_of 9 0))
 
-unfoldable pub emptyLists : Lists → Lists
-emptyLists l = cond (listsFit l) (lists 0 l.values l.bounds l.pcs) l
+unfoldable pub empty_lists : Lists → Lists
+empty_lists l = cond (lists_fit l) (lists 0 l.values l.bounds l.pcs) l
 
 -- the entry at a place below the count; 9 for malformed lists
 unfoldable pub entry_at : ℕ → Lists → Entry
 entry_at n l =
-    cond (listsFit l)
+    cond (lists_fit l)
     (cond (ltb n l.count) (E.Check (get_or l.values n 0) (get_or l.bounds n 0) (get_or l.pcs n 0)) E.Nothing)
-    (E.Refused (refusalOf 9 0))
+    (E.Refused (refusal_of 9 0))

@@ -1,6 +1,6 @@
 // Pending checks, in three lent lists of numbers and a count: values, the bounds that were noted of them, and pcs.
 ghost use Rattle.std.specs.Prelude.{◌≡◌, set};
-ghost use Rattle.pending.specs.Pending.{lists, lengthsFit, room_at, lacks, checksOf, appended, listing, appendAnswer, appendLists, emptyAnswer, emptyLists, entry_at};
+ghost use Rattle.pending.specs.Pending.{lists, lengths_fit, room_at, lacks, checks_of, appended, listing, append_answer, append_lists, empty_answer, empty_lists, entry_at};
 
 use refusal::Refusal;
 
@@ -35,7 +35,7 @@ pub enum Entry {
 
 // Whether the lists are of one length, and the count within it.
 pub fn lists_fit(values: usize, bounds: usize, pcs: usize, count: usize) -> bool
-    ensures { result ≡ lengthsFit values bounds pcs count }
+    ensures { result ≡ lengths_fit values bounds pcs count }
 {
     (bounds == values) & (pcs == values) & (count <= values)
 }
@@ -109,7 +109,7 @@ pub fn list(
     checks: Checks,
     pc: u64,
 ) -> usize
-    ensures { lists result values.new bounds.new pcs.new ≡ listing (checksOf checks) pc (lists count values.old bounds.old pcs.old) }
+    ensures { lists result values.new bounds.new pcs.new ≡ listing (checks_of checks) pc (lists count values.old bounds.old pcs.old) }
 {
     match checks {
         Checks::Nothing => count,
@@ -127,7 +127,7 @@ pub fn append(
     bound: u8,
     pc: u64,
 ) -> Counted
-    ensures { (result ≡ appendAnswer value bound pc (lists count values.old bounds.old pcs.old)) × (lists (appendLists value bound pc (lists count values.old bounds.old pcs.old)).count values.new bounds.new pcs.new ≡ appendLists value bound pc (lists count values.old bounds.old pcs.old)) }
+    ensures { (result ≡ append_answer value bound pc (lists count values.old bounds.old pcs.old)) × (lists (append_lists value bound pc (lists count values.old bounds.old pcs.old)).count values.new bounds.new pcs.new ≡ append_lists value bound pc (lists count values.old bounds.old pcs.old)) }
 {
     if !lists_fit(values.len(), bounds.len(), pcs.len(), count) {
         return Counted::Refused(Refusal::Malformed);
@@ -140,7 +140,7 @@ pub fn append(
 
 // Empties the lists: the count is 0 then, and the entries stay.
 pub fn empty(values: &mut [u64], bounds: &mut [u8], pcs: &mut [u64], count: usize) -> Counted
-    ensures { (result ≡ emptyAnswer (lists count values.old bounds.old pcs.old)) × (lists (emptyLists (lists count values.old bounds.old pcs.old)).count values.new bounds.new pcs.new ≡ emptyLists (lists count values.old bounds.old pcs.old)) }
+    ensures { (result ≡ empty_answer (lists count values.old bounds.old pcs.old)) × (lists (empty_lists (lists count values.old bounds.old pcs.old)).count values.new bounds.new pcs.new ≡ empty_lists (lists count values.old bounds.old pcs.old)) }
 {
     if !lists_fit(values.len(), bounds.len(), pcs.len(), count) {
         return Counted::Refused(Refusal::Malformed);

@@ -7,74 +7,74 @@ use native.Mathlib.Omega.{arith}
 use borrow.Author.Tests.{eq-eqb, ne_eqb, lt-ltb, le-ltb}
 use lib.ListN.{length}
 use lib.Seq.{sets-eq}
-use Rattle.refusal.specs.Stops.{number_of, particularOf}
+use Rattle.refusal.specs.Stops.{number_of, particular_of}
 use Rattle.refusal.specs.declared.Refusal.{Refusal}
-use Rattle.opcode.specs.Opcodes.{opcodeNumber}
+use Rattle.opcode.specs.Opcodes.{opcode_number}
 use Rattle.instruction.specs.Operands.{parts_of}
-use Rattle.words.specs.Words.{decodeIn}
+use Rattle.words.specs.Words.{decode_in}
 use Rattle.words.specs.declared.Decoded.{Decoded}
 use Rattle.words.specs.declared.Decoded.TheVariants as D
-use Rattle.told.specs.Told.{doneTold, refusedTold}
+use Rattle.told.specs.Told.{done_told, refused_told}
 use Rattle.told.specs.declared.Told.{Told}
 use Rattle.printing.specs.declared.measure.Room.TheVariants as Room·
-use Rattle.printing.specs.Print.{Printed, text, undecodable, printLine, printedBy, printOf, toldOf, leftBy, printTold, printLeaves}
-use Rattle.printing.specs.Passes.{allWords, taken_of, roomAfter, andLines, printedLines, Put}
+use Rattle.printing.specs.Print.{Printed, text, undecodable, print_line, printed_by, print_of, told_of, left_by, print_told, print_leaves}
+use Rattle.printing.specs.Passes.{all_words, taken_of, room_after, and_lines, printed_lines, Put}
 
 -- the lines of words that all decode are their text
-lines_are : (ws t : List ℕ) → printOf ws ≡ text t → printedLines ws ≡ t
-unfolding printOf printedLines
+lines_are : (ws t : List ℕ) → print_of ws ≡ text t → printed_lines ws ≡ t
+unfolding print_of printed_lines
 lines_are [] t e = cc
-lines_are (w ∷ ws) t e = by (decodeIn opcodeNumber w) (printOf ws) (lines_are ws) e
+lines_are (w ∷ ws) t e = by (decode_in opcode_number w) (print_of ws) (lines_are ws) e
   where
-    by : (d : Decoded) (rest : Printed) → ((s : List ℕ) → rest ≡ text s → printedLines ws ≡ s) → printedBy d rest ≡ text t → andLines (taken_of d) (printedLines ws) ≡ t
+    by : (d : Decoded) (rest : Printed) → ((s : List ℕ) → rest ≡ text s → printed_lines ws ≡ s) → printed_by d rest ≡ text t → and_lines (taken_of d) (printed_lines ws) ≡ t
     by (D.Instruction i) (text s) more e =
-        let is : printLine (parts_of i) ++ (10 ∷ s) ≡ t = cc in
+        let is : print_line (parts_of i) ++ (10 ∷ s) ≡ t = cc in
         rw (more s refl, append_assoc) is
     by (D.Instruction i) (undecodable r) more e = absurd (let z : ◌≡◌ {A = ℕ} 0 1 = cc in omega arith)
     by (D.Refused r) rest more e = absurd (let z : ◌≡◌ {A = ℕ} 0 1 = cc in omega arith)
 
 module _ (words old : List ℕ) where
   abbrev Answered : Told → List ℕ → Type 0
-  Answered r new = (r ≡ printTold words old) × (new ≡ printLeaves words old)
+  Answered r new = (r ≡ print_told words old) × (new ≡ print_leaves words old)
 
-  pub broken : (length words % 4 ≡ 0 → ⊥) → Answered (refusedTold 9 0) old
-  unfolding printTold printLeaves
+  pub broken : (length words % 4 ≡ 0 → ⊥) → Answered (refused_told 9 0) old
+  unfolding print_told print_leaves
   broken h = let e = ne_eqb (length words % 4) 0 h in (rw e, rw e)
 
   module _ (whole_words : length words % 4 ≡ 0) where
-    answered : (p : Printed) → printOf (allWords words) ≡ p → Answered (toldOf p (length old)) (leftBy p old)
-    unfolding printTold printLeaves
+    answered : (p : Printed) → print_of (all_words words) ≡ p → Answered (told_of p (length old)) (left_by p old)
+    unfolding print_told print_leaves
     answered p is = let e = eq-eqb (length words % 4) 0 whole_words in (rw (e, is), rw (e, is))
 
-    pub stopped : (room : ℕ) (r : Refusal) → roomAfter (printOf (allWords words)) room ≡ Room·.Refused r → Answered (refusedTold (number_of r) (particularOf r)) old
-    stopped room r = by (printOf (allWords words)) refl
+    pub stopped : (room : ℕ) (r : Refusal) → room_after (print_of (all_words words)) room ≡ Room·.Refused r → Answered (refused_told (number_of r) (particular_of r)) old
+    stopped room r = by (print_of (all_words words)) refl
       where
-        by : (p : Printed) → printOf (allWords words) ≡ p → roomAfter p room ≡ Room·.Refused r → Answered (refusedTold (number_of r) (particularOf r)) old
+        by : (p : Printed) → print_of (all_words words) ≡ p → room_after p room ≡ Room·.Refused r → Answered (refused_told (number_of r) (particular_of r)) old
         by (text t) is e = absurd (let z : ◌≡◌ {A = ℕ} 0 1 = cc in omega arith)
         by (undecodable s) is e = let same : s ≡ r = cc in rw (← same) (answered (undecodable s) is)
 
-    module _ (left : ℕ) (e : roomAfter (printOf (allWords words)) (length old + 1) ≡ Room·.Left left) where
-      text-is : (t : List ℕ) × (printOf (allWords words) ≡ text t) × (length old + 1 - length t ≡ left)
-      text-is = by (printOf (allWords words)) refl e
+    module _ (left : ℕ) (e : room_after (print_of (all_words words)) (length old + 1) ≡ Room·.Left left) where
+      text-is : (t : List ℕ) × (print_of (all_words words) ≡ text t) × (length old + 1 - length t ≡ left)
+      text-is = by (print_of (all_words words)) refl e
         where
-          by : (p : Printed) → printOf (allWords words) ≡ p → roomAfter p (length old + 1) ≡ Room·.Left left → (t : List ℕ) × (printOf (allWords words) ≡ text t) × (length old + 1 - length t ≡ left)
+          by : (p : Printed) → print_of (all_words words) ≡ p → room_after p (length old + 1) ≡ Room·.Left left → (t : List ℕ) × (print_of (all_words words) ≡ text t) × (length old + 1 - length t ≡ left)
           by (text t) is e = (t, is, cc)
           by (undecodable r) is e = absurd (let z : ◌≡◌ {A = ℕ} 0 1 = cc in omega arith)
 
-      pub short : left ≡ 0 → Answered (refusedTold 9 0) old
+      pub short : left ≡ 0 → Answered (refused_told 9 0) old
       short h =
           let t = text-is.0 in
           let long = lt-ltb (length old) (length t) (omega (arith, text-is.2)) in
           rw long at (answered (text t) text-is.1)
 
       module _ (h : left ≡ 0 → ⊥) where
-        pub room-enough : length (printedLines (allWords words)) ≤ length old
-        room-enough = rw (lines_are (allWords words) text-is.0 text-is.1) (omega (arith, text-is.2))
+        pub room-enough : length (printed_lines (all_words words)) ≤ length old
+        room-enough = rw (lines_are (all_words words) text-is.0 text-is.1) (omega (arith, text-is.2))
 
-        pub written : (new : List ℕ) (end : ℕ) → Put old new 0 end (printedLines (allWords words)) → Answered (doneTold end) new
+        pub written : (new : List ℕ) (end : ℕ) → Put old new 0 end (printed_lines (all_words words)) → Answered (done_told end) new
         written new end put =
             let t = text-is.0 in
-            let lines = lines_are (allWords words) t text-is.1 in
+            let lines = lines_are (all_words words) t text-is.1 in
             let all = rw lines at put in
             let enough = le-ltb (length old) (length t) (omega (arith, text-is.2)) in
             let told = rw enough at (answered (text t) text-is.1) in

@@ -8,52 +8,52 @@ use native.Mathlib.Omega.{arith}
 use borrow.Author.Tests.{lt-ltb, le-ltb}
 use lib.Dec.{ltb}
 use lib.ListN.{length, length-append}
-use Rattle.printing.specs.Print.{digitsBy, numberText}
+use Rattle.printing.specs.Print.{digits_by, number_text}
 
 -- a digit more is not used
-unused : (f n : ℕ) → n < 10 ^ suc f → digitsBy (suc (suc f)) n ≡ digitsBy (suc f) n
-unfolding digitsBy
+unused : (f n : ℕ) → n < 10 ^ suc f → digits_by (suc (suc f)) n ≡ digits_by (suc f) n
+unfolding digits_by
 unused zero n h = rw (lt-ltb n 10 h)
 unused (suc f) n h =
     let small : n < 10 ^ suc f * 10 = rw pow-suc at h in
     rw (unused f (n / 10) (omega arith))
 
-pub one-digit : (f n : ℕ) → n < 10 → digitsBy (suc f) n ≡ (48 + n) ∷ []
-unfolding digitsBy
+pub one-digit : (f n : ℕ) → n < 10 → digits_by (suc f) n ≡ (48 + n) ∷ []
+unfolding digits_by
 one-digit f n h = rw (lt-ltb n 10 h)
 
-last-digit : (f n : ℕ) → 10 ≤ n → digitsBy (suc f) n ≡ digitsBy f (n / 10) ++ ((48 + n % 10) ∷ [])
-unfolding digitsBy
+last-digit : (f n : ℕ) → 10 ≤ n → digits_by (suc f) n ≡ digits_by f (n / 10) ++ ((48 + n % 10) ∷ [])
+unfolding digits_by
 last-digit f n h = rw (le-ltb n 10 h)
 
-pub more-digits : (n : ℕ) → 10 ≤ n → n < 2 ^ 64 → digitsBy 20 n ≡ digitsBy 20 (n / 10) ++ ((48 + n % 10) ∷ [])
+pub more-digits : (n : ℕ) → 10 ≤ n → n < 2 ^ 64 → digits_by 20 n ≡ digits_by 20 (n / 10) ++ ((48 + n % 10) ∷ [])
 more-digits n h small = rw (unused 18 (n / 10) (omega arith)) (last-digit 19 n h)
 
-pub length_more : (n : ℕ) → 10 ≤ n → n < 2 ^ 64 → length (digitsBy 20 n) ≡ length (digitsBy 20 (n / 10)) + 1
-length_more n h small = rw (more-digits n h small) (length-append (digitsBy 20 (n / 10)) ((48 + n % 10) ∷ []))
+pub length_more : (n : ℕ) → 10 ≤ n → n < 2 ^ 64 → length (digits_by 20 n) ≡ length (digits_by 20 (n / 10)) + 1
+length_more n h small = rw (more-digits n h small) (length-append (digits_by 20 (n / 10)) ((48 + n % 10) ∷ []))
 
-pub length_most : (f n : ℕ) → length (digitsBy f n) ≤ f
-unfolding digitsBy
+pub length_most : (f n : ℕ) → length (digits_by f n) ≤ f
+unfolding digits_by
 length_most zero n = omega arith
 length_most (suc f) n = go (ltb n 10) (length_most f (n / 10))
   where
-    go : (c : Bool) → length (digitsBy f (n / 10)) ≤ f → length (cond c ((48 + n) ∷ []) (digitsBy f (n / 10) ++ ((48 + n % 10) ∷ []))) ≤ suc f
+    go : (c : Bool) → length (digits_by f (n / 10)) ≤ f → length (cond c ((48 + n) ∷ []) (digits_by f (n / 10) ++ ((48 + n % 10) ∷ []))) ≤ suc f
     go true h = omega arith
     go false h = simp length-append (omega arith)
 
-pub length-least : (f n : ℕ) → 1 ≤ length (digitsBy (suc f) n)
-unfolding digitsBy
+pub length-least : (f n : ℕ) → 1 ≤ length (digits_by (suc f) n)
+unfolding digits_by
 length-least f n = go (ltb n 10)
   where
-    go : (c : Bool) → 1 ≤ length (cond c ((48 + n) ∷ []) (digitsBy f (n / 10) ++ ((48 + n % 10) ∷ [])))
+    go : (c : Bool) → 1 ≤ length (cond c ((48 + n) ∷ []) (digits_by f (n / 10) ++ ((48 + n % 10) ∷ [])))
     go true = omega arith
     go false = simp length-append (omega arith)
 
 -- with a sign
-pub not_negative : (n : ℕ) → n < 2 ^ 63 → numberText n ≡ digitsBy 20 n
-unfolding numberText
+pub not_negative : (n : ℕ) → n < 2 ^ 63 → number_text n ≡ digits_by 20 n
+unfolding number_text
 not_negative n h = rw (lt-ltb n (2 ^ 63) h)
 
-pub negative : (n : ℕ) → 2 ^ 63 ≤ n → numberText n ≡ 45 ∷ digitsBy 20 (2 ^ 64 - n)
-unfolding numberText
+pub negative : (n : ℕ) → 2 ^ 63 ≤ n → number_text n ≡ 45 ∷ digits_by 20 (2 ^ 64 - n)
+unfolding number_text
 negative n h = rw (le-ltb n (2 ^ 63) h)

@@ -5,7 +5,7 @@ use mathlib.Core.Path.{◌≡◌, refl, ap, ◌∙◌, sym}
 use native.Mathlib.Omega.{arith}
 use lib.ListN.{length, set, length-append}
 use lib.Seq.{sets, set_comm}
-use Rattle.printing.specs.Passes.{lettersOf, Put}
+use Rattle.printing.specs.Passes.{letters_of, Put}
 
 sets-next : (l : List ℕ) (at next : ℕ) (xs ys : List ℕ) → at + length xs ≡ next → sets (sets l at xs) next ys ≡ sets l at (xs ++ ys)
 sets-next l at next [] ys e = let same : next ≡ at = omega arith in rw same
@@ -29,14 +29,14 @@ pub no_byte : (l : List ℕ) (at : ℕ) → Put l l at at []
 no_byte l at = record { stop = omega arith; left = refl }
 
 -- a piece that is the letters of a key
-pub length-letters : (n key : ℕ) → length (lettersOf n key) ≡ n
-unfolding lettersOf
+pub length-letters : (n key : ℕ) → length (letters_of n key) ≡ n
+unfolding letters_of
 length-letters zero key = refl
-length-letters (suc n) key = length-append (lettersOf n (key / 256)) _ ∙ ap (◌+ 1) (length-letters n (key / 256)) ∙ omega arith
+length-letters (suc n) key = length-append (letters_of n (key / 256)) _ ∙ ap (◌+ 1) (length-letters n (key / 256)) ∙ omega arith
 
 -- one letter more, put before the rest: the last
-pub letter-more : (l : List ℕ) (at n key : ℕ) → sets (set l (at + n) (key % 256)) at (lettersOf n (key / 256)) ≡ sets l at (lettersOf (suc n) key)
-unfolding lettersOf
+pub letter-more : (l : List ℕ) (at n key : ℕ) → sets (set l (at + n) (key % 256)) at (letters_of n (key / 256)) ≡ sets l at (letters_of (suc n) key)
+unfolding letters_of
 letter-more l at n key =
-    ap (λ (k : ℕ). sets (set l (at + k) (key % 256)) at (lettersOf n (key / 256))) (sym (length-letters n (key / 256)))
-    ∙ sets_last l at (lettersOf n (key / 256)) (key % 256)
+    ap (λ (k : ℕ). sets (set l (at + k) (key % 256)) at (letters_of n (key / 256))) (sym (length-letters n (key / 256)))
+    ∙ sets_last l at (letters_of n (key / 256)) (key % 256)

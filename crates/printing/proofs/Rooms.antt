@@ -6,46 +6,46 @@ use native.Mathlib.Omega.{arith}
 use lib.ListN.{length, length-append}
 use Rattle.refusal.specs.declared.Refusal.{Refusal}
 use Rattle.memory.specs.Bytes.{number_at}
-use Rattle.opcode.specs.Opcodes.{opcodeNumber}
+use Rattle.opcode.specs.Opcodes.{opcode_number}
 use Rattle.instruction.specs.Operands.{parts_of}
 use Rattle.instruction.specs.declared.Parts.{Parts}
-use Rattle.words.specs.Words.{decodeIn}
+use Rattle.words.specs.Words.{decode_in}
 use Rattle.words.specs.declared.Decoded.{Decoded}
 use Rattle.words.specs.declared.Decoded.TheVariants as D
 use Rattle.words.specs.declared.Taken.TheVariants as T
 use Rattle.printing.specs.declared.measure.Room.TheVariants as Room·
-use Rattle.printing.specs.Print.{Printed, text, undecodable, printLine, printedBy, printOf}
-use Rattle.printing.specs.Passes.{taken_of, roomAfter, fed, printedLines}
-use Rattle.printing.proofs.Words.{wordsFrom, words_more}
+use Rattle.printing.specs.Print.{Printed, text, undecodable, print_line, printed_by, print_of}
+use Rattle.printing.specs.Passes.{taken_of, room_after, fed, printed_lines}
+use Rattle.printing.proofs.Words.{words_from, words_more}
 
 module _ (at : ℕ) (bs : List ℕ) (h : at + 4 ≤ length bs) where
-  module _ (p : Parts) (is : taken_of (decodeIn opcodeNumber (number_at 4 bs at)) ≡ T.Apart p) where
-    pub room-more : (room : ℕ) → roomAfter (printOf (wordsFrom at bs)) room ≡ roomAfter (printOf (wordsFrom (at + 4) bs)) (room - length (fed p))
-    unfolding printOf
-    room-more room = rw (words_more at bs h) (by (decodeIn opcodeNumber (number_at 4 bs at)) (printOf (wordsFrom (at + 4) bs)) is)
+  module _ (p : Parts) (is : taken_of (decode_in opcode_number (number_at 4 bs at)) ≡ T.Apart p) where
+    pub room-more : (room : ℕ) → room_after (print_of (words_from at bs)) room ≡ room_after (print_of (words_from (at + 4) bs)) (room - length (fed p))
+    unfolding print_of
+    room-more room = rw (words_more at bs h) (by (decode_in opcode_number (number_at 4 bs at)) (print_of (words_from (at + 4) bs)) is)
       where
-        by : (d : Decoded) (rest : Printed) → taken_of d ≡ T.Apart p → roomAfter (printedBy d rest) room ≡ roomAfter rest (room - length (fed p))
+        by : (d : Decoded) (rest : Printed) → taken_of d ≡ T.Apart p → room_after (printed_by d rest) room ≡ room_after rest (room - length (fed p))
         by (D.Instruction i) (text t) e =
             let same : parts_of i ≡ p = cc in
-            let one = length-append (printLine p) (10 ∷ []) in
-            let all = length-append (printLine p) (10 ∷ t) in
+            let one = length-append (print_line p) (10 ∷ []) in
+            let all = length-append (print_line p) (10 ∷ t) in
             rw same (ap Room·.Left (omega arith))
         by (D.Instruction i) (undecodable r) e = refl
         by (D.Refused r) rest e = absurd (let z : ◌≡◌ {A = ℕ} 0 1 = cc in omega arith)
 
-    pub lines_more : printedLines (wordsFrom at bs) ≡ fed p ++ printedLines (wordsFrom (at + 4) bs)
-    unfolding printedLines
+    pub lines_more : printed_lines (words_from at bs) ≡ fed p ++ printed_lines (words_from (at + 4) bs)
+    unfolding printed_lines
     lines_more = rw (words_more at bs h, is)
 
-  module _ (r : Refusal) (is : taken_of (decodeIn opcodeNumber (number_at 4 bs at)) ≡ T.Refused r) where
-    pub room-none : (room : ℕ) → roomAfter (printOf (wordsFrom at bs)) room ≡ Room·.Refused r
-    unfolding printOf
-    room-none room = rw (words_more at bs h) (by (decodeIn opcodeNumber (number_at 4 bs at)) is)
+  module _ (r : Refusal) (is : taken_of (decode_in opcode_number (number_at 4 bs at)) ≡ T.Refused r) where
+    pub room-none : (room : ℕ) → room_after (print_of (words_from at bs)) room ≡ Room·.Refused r
+    unfolding print_of
+    room-none room = rw (words_more at bs h) (by (decode_in opcode_number (number_at 4 bs at)) is)
       where
-        by : (d : Decoded) → taken_of d ≡ T.Refused r → roomAfter (printedBy d (printOf (wordsFrom (at + 4) bs))) room ≡ Room·.Refused r
+        by : (d : Decoded) → taken_of d ≡ T.Refused r → room_after (printed_by d (print_of (words_from (at + 4) bs))) room ≡ Room·.Refused r
         by (D.Instruction i) e = absurd (let z : ◌≡◌ {A = ℕ} 0 1 = cc in omega arith)
         by (D.Refused s) e = let same : s ≡ r = cc in ap Room·.Refused same
 
-    pub lines_none : printedLines (wordsFrom at bs) ≡ []
-    unfolding printedLines
+    pub lines_none : printed_lines (words_from at bs) ≡ []
+    unfolding printed_lines
     lines_none = rw (words_more at bs h, is)

@@ -1,52 +1,52 @@
 -- Inner: the room that `measure` leaves, the lines that `put_lines` writes, and what each writer of a piece of text promises.
 use Rattle.std.specs.Prelude.{ℕ, zero, suc, ◌+◌, ◌-◌, ◌/◌, ◌%◌, ◌<◌, ◌≡◌, List, [], ◌∷◌, ◌++◌, length}
 use Rattle.std.proofs.lemmas.List.Edits.{sets}
-use Rattle.opcode.specs.Opcodes.{opcodeNumber}
+use Rattle.opcode.specs.Opcodes.{opcode_number}
 use Rattle.instruction.specs.Operands.{parts_of}
 use Rattle.instruction.specs.declared.Parts.{Parts}
-use Rattle.words.specs.Words.{decodeIn}
+use Rattle.words.specs.Words.{decode_in}
 use Rattle.words.specs.declared.Decoded.{Decoded}
 use Rattle.words.specs.declared.Decoded.TheVariants as D
 use Rattle.words.specs.declared.Taken.{Taken}
 use Rattle.words.specs.declared.Taken.TheVariants as T
-use Rattle.names.specs.Names.{registerText}
+use Rattle.names.specs.Names.{register_text}
 use Rattle.printing.specs.declared.measure.Room.{Room}
 use Rattle.printing.specs.declared.measure.Room.TheVariants as Room·
-use Rattle.printing.specs.Print.{Printed, text, undecodable, printLine, words_in}
+use Rattle.printing.specs.Print.{Printed, text, undecodable, print_line, words_in}
 
-abbrev pub allWords : List ℕ → List ℕ
-allWords bs = words_in (length bs / 4) bs
+abbrev pub all_words : List ℕ → List ℕ
+all_words bs = words_in (length bs / 4) bs
 
 abbrev pub taken_of : Decoded → Taken
 taken_of (D.Instruction i) = T.Apart (parts_of i)
 taken_of (D.Refused r) = T.Refused r
 
 -- what is left of a room, 0 if the text is longer
-abbrev pub roomAfter : Printed → ℕ → Room
-roomAfter (text t) room = Room·.Left (room - length t)
-roomAfter (undecodable r) room = Room·.Refused r
+abbrev pub room_after : Printed → ℕ → Room
+room_after (text t) room = Room·.Left (room - length t)
+room_after (undecodable r) room = Room·.Refused r
 
 -- the low n bytes of a key, the lowest last
-unfoldable pub lettersOf : ℕ → ℕ → List ℕ
-lettersOf zero key = []
-lettersOf (suc n) key = lettersOf n (key / 256) ++ ((key % 256) ∷ [])
+unfoldable pub letters_of : ℕ → ℕ → List ℕ
+letters_of zero key = []
+letters_of (suc n) key = letters_of n (key / 256) ++ ((key % 256) ∷ [])
 
 -- the operands that most lines begin with
-abbrev pub twoRegisters : ℕ → ℕ → List ℕ
-twoRegisters a b = 32 ∷ (registerText a ++ (44 ∷ (32 ∷ registerText b)))
+abbrev pub two_registers : ℕ → ℕ → List ℕ
+two_registers a b = 32 ∷ (register_text a ++ (44 ∷ (32 ∷ register_text b)))
 
 -- a line with its line feed
 abbrev pub fed : Parts → List ℕ
-fed p = printLine p ++ (10 ∷ [])
+fed p = print_line p ++ (10 ∷ [])
 
 -- the lines of words, up to the first that does not decode
-abbrev pub andLines : Taken → List ℕ → List ℕ
-andLines (T.Apart p) rest = fed p ++ rest
-andLines (T.Refused r) rest = []
+abbrev pub and_lines : Taken → List ℕ → List ℕ
+and_lines (T.Apart p) rest = fed p ++ rest
+and_lines (T.Refused r) rest = []
 
-unfoldable pub printedLines : List ℕ → List ℕ
-printedLines [] = []
-printedLines (w ∷ ws) = andLines (taken_of (decodeIn opcodeNumber w)) (printedLines ws)
+unfoldable pub printed_lines : List ℕ → List ℕ
+printed_lines [] = []
+printed_lines (w ∷ ws) = and_lines (taken_of (decode_in opcode_number w)) (printed_lines ws)
 
 -- a piece of text stands at a place, and it ends where the writer says
 pub record Put (old new : List ℕ) (at end : ℕ) (piece : List ℕ) : Type 0 where

@@ -1,6 +1,6 @@
 // Numbers in decimal.
 ghost use Rattle.std.specs.Prelude.{◌≡◌, ◌+◌, ◌-◌, ◌≤◌, ◌^◌, length};
-ghost use Rattle.printing.specs.Print.{digitsBy, numberText};
+ghost use Rattle.printing.specs.Print.{digits_by, number_text};
 ghost use Rattle.printing.specs.Passes.{Put};
 
 use crate::put::put_byte;
@@ -9,7 +9,7 @@ use crate::put::put_byte;
 const HALF: u64 = 0x8000_0000_0000_0000;
 
 fn count_digits(n: u64) -> usize
-    ensures { (result ≡ length (digitsBy 20 n)) × (result ≤ 20) }
+    ensures { (result ≡ length (digits_by 20 n)) × (result ≤ 20) }
 {
     let mut rest = n;
     let mut count: usize = 1;
@@ -22,8 +22,8 @@ fn count_digits(n: u64) -> usize
 
 // From the last digit to the first.
 fn put_digits(text: &mut [u8], at: usize, n: u64) -> usize
-    requires { at + length (digitsBy 20 n) ≤ length text.old }
-    ensures { Put text.old text.new at result (digitsBy 20 n) }
+    requires { at + length (digits_by 20 n) ≤ length text.old }
+    ensures { Put text.old text.new at result (digits_by 20 n) }
 {
     let end = at + count_digits(n);
     let mut rest = n;
@@ -46,7 +46,7 @@ fn negated(n: u64) -> u64
 }
 
 pub(crate) fn number_length(n: u64) -> usize
-    ensures { (result ≡ length (numberText n)) × (result ≤ 21) }
+    ensures { (result ≡ length (number_text n)) × (result ≤ 21) }
 {
     if n < HALF {
         return count_digits(n);
@@ -55,8 +55,8 @@ pub(crate) fn number_length(n: u64) -> usize
 }
 
 pub(crate) fn put_signed(text: &mut [u8], at: usize, n: u64) -> usize
-    requires { at + length (numberText n) ≤ length text.old }
-    ensures { Put text.old text.new at result (numberText n) }
+    requires { at + length (number_text n) ≤ length text.old }
+    ensures { Put text.old text.new at result (number_text n) }
 {
     if n < HALF {
         return put_digits(text, at, n);

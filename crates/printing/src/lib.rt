@@ -8,7 +8,7 @@ mod source; // source.rt: the words of a program
 mod writing; // writing.rt: the second pass
 
 ghost use Rattle.std.specs.Prelude.{◌≡◌};
-ghost use Rattle.printing.specs.Print.{printTold, printLeaves};
+ghost use Rattle.printing.specs.Print.{print_told, print_leaves};
 
 use measure::{Room, measure};
 use refusal::{number_of, particular_of};
@@ -17,7 +17,7 @@ use writing::put_lines;
 
 // What `measure` is given is one more than the room, so that what is left is 0 only if the text is too long.
 pub fn print(words: &[u8], text: &mut [u8]) -> Told
-    ensures { (result ≡ printTold words.now text.old) × (text.new ≡ printLeaves words.now text.old) }
+    ensures { (result ≡ print_told words.now text.old) × (text.new ≡ print_leaves words.now text.old) }
 {
     if words.len() % 4 != 0 {
         return refused(9, 0);

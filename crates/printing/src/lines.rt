@@ -1,6 +1,6 @@
 // A line: an instruction's name, its operands and a line feed.
 ghost use Rattle.std.specs.Prelude.{◌≡◌, ◌+◌, ◌≤◌, length};
-ghost use Rattle.names.specs.Names.{nameOf};
+ghost use Rattle.names.specs.Names.{name_of};
 ghost use Rattle.printing.specs.Passes.{fed, Put, ShortRegisters};
 
 use crate::operands::{operands_length, put_operands};
@@ -12,7 +12,7 @@ use opcode::Opcode;
 
 // The letters of an opcode's name, without a look at the name, which takes longer.
 fn letters(op: Opcode) -> usize
-    ensures { (result ≡ length (nameOf op)) × (result ≤ 6) }
+    ensures { (result ≡ length (name_of op)) × (result ≤ 6) }
 {
     match op {
         Opcode::Or
@@ -53,8 +53,8 @@ pub(crate) fn line_length(p: Parts) -> usize
 }
 
 fn put_name(text: &mut [u8], at: usize, op: Opcode) -> usize
-    requires { at + length (nameOf op) ≤ length text.old }
-    ensures { Put text.old text.new at result (nameOf op) }
+    requires { at + length (name_of op) ≤ length text.old }
+    ensures { Put text.old text.new at result (name_of op) }
 {
     let size = letters(op);
     put_key(text, at, size, name_of(op))

@@ -1,7 +1,7 @@
 // The first pass: whether all words decode, and the room that their text leaves.
 ghost use Rattle.std.specs.Prelude.{◌≡◌, ◌-◌, ◌%◌, length};
-ghost use Rattle.printing.specs.Print.{printOf};
-ghost use Rattle.printing.specs.Passes.{allWords, roomAfter};
+ghost use Rattle.printing.specs.Print.{print_of};
+ghost use Rattle.printing.specs.Passes.{all_words, room_after};
 
 use crate::lines::line_length;
 use crate::source::parts_at;
@@ -23,7 +23,7 @@ fn less(room: usize, n: usize) -> usize
 // Where no room is left it still looks for a word that does not decode.
 pub(crate) fn measure(words: &[u8], room: usize) -> Room
     requires { length words.now % 4 ≡ 0 }
-    ensures { result ≡ roomAfter (printOf (allWords words.now)) room }
+    ensures { result ≡ room_after (print_of (all_words words.now)) room }
 {
     let mut left = room;
     let mut at: usize = 0;

@@ -1,8 +1,8 @@
 // The operands of an instruction, with their commas and spaces.
 ghost use Rattle.std.specs.Prelude.{◌≡◌, ◌∷◌, ◌+◌, ◌≤◌, ◌<◌, length};
-ghost use Rattle.names.specs.Names.{registerText};
-ghost use Rattle.printing.specs.Print.{numberText, operandTexts, spelled};
-ghost use Rattle.printing.specs.Passes.{twoRegisters, Put, ShortRegisters};
+ghost use Rattle.names.specs.Names.{register_text};
+ghost use Rattle.printing.specs.Print.{number_text, operand_texts, spelled};
+ghost use Rattle.printing.specs.Passes.{two_registers, Put, ShortRegisters};
 
 use crate::digits::{number_length, put_signed};
 use crate::put::put_byte;
@@ -10,13 +10,13 @@ use instruction::Parts;
 use opcode::Form;
 
 fn register_length(r: u8) -> usize
-    ensures { (result ≡ length (registerText r)) × (result ≤ 3) }
+    ensures { (result ≡ length (register_text r)) × (result ≤ 3) }
 {
     if r < 10 { 2 } else { 3 }
 }
 
 pub(crate) fn operands_length(f: Form, p: Parts) -> usize
-    ensures { (result ≡ length (spelled (operandTexts f p))) × (result ≤ 32) }
+    ensures { (result ≡ length (spelled (operand_texts f p))) × (result ≤ 32) }
 {
     let a = register_length(p.a);
     let b = register_length(p.b);
@@ -30,8 +30,8 @@ pub(crate) fn operands_length(f: Form, p: Parts) -> usize
 
 fn put_first(text: &mut [u8], at: usize, r: u8) -> usize
     requires r_bound { r < 16 }
-    requires r_in_bounds { at + length (32 ∷ registerText r) ≤ length text.old }
-    ensures { Put text.old text.new at result (32 ∷ registerText r) }
+    requires r_in_bounds { at + length (32 ∷ register_text r) ≤ length text.old }
+    ensures { Put text.old text.new at result (32 ∷ register_text r) }
 {
     text[at] = b' ';
     text[at + 1] = b'R';
@@ -46,8 +46,8 @@ fn put_first(text: &mut [u8], at: usize, r: u8) -> usize
 
 fn put_next(text: &mut [u8], at: usize, r: u8) -> usize
     requires r_bound { r < 16 }
-    requires r_in_bounds { at + length (44 ∷ (32 ∷ registerText r)) ≤ length text.old }
-    ensures { Put text.old text.new at result (44 ∷ (32 ∷ registerText r)) }
+    requires r_in_bounds { at + length (44 ∷ (32 ∷ register_text r)) ≤ length text.old }
+    ensures { Put text.old text.new at result (44 ∷ (32 ∷ register_text r)) }
 {
     let end = put_byte(text, at, b',');
     put_first(text, end, r)
@@ -56,16 +56,16 @@ fn put_next(text: &mut [u8], at: usize, r: u8) -> usize
 fn put_two(text: &mut [u8], at: usize, a: u8, b: u8) -> usize
     requires a_bound { a < 16 }
     requires b_bound { b < 16 }
-    requires b_in_bounds { at + length (twoRegisters a b) ≤ length text.old }
-    ensures { Put text.old text.new at result (twoRegisters a b) }
+    requires b_in_bounds { at + length (two_registers a b) ≤ length text.old }
+    ensures { Put text.old text.new at result (two_registers a b) }
 {
     let end = put_first(text, at, a);
     put_next(text, end, b)
 }
 
 fn put_last(text: &mut [u8], at: usize, n: u64) -> usize
-    requires { at + length (44 ∷ (32 ∷ numberText n)) ≤ length text.old }
-    ensures { Put text.old text.new at result (44 ∷ (32 ∷ numberText n)) }
+    requires { at + length (44 ∷ (32 ∷ number_text n)) ≤ length text.old }
+    ensures { Put text.old text.new at result (44 ∷ (32 ∷ number_text n)) }
 {
     let comma = put_byte(text, at, b',');
     let space = put_byte(text, comma, b' ');
@@ -74,8 +74,8 @@ fn put_last(text: &mut [u8], at: usize, n: u64) -> usize
 
 pub(crate) fn put_operands(text: &mut [u8], at: usize, f: Form, p: Parts) -> usize
     requires short_registers { ShortRegisters p }
-    requires p_in_bounds { at + length (spelled (operandTexts f p)) ≤ length text.old }
-    ensures { Put text.old text.new at result (spelled (operandTexts f p)) }
+    requires p_in_bounds { at + length (spelled (operand_texts f p)) ≤ length text.old }
+    ensures { Put text.old text.new at result (spelled (operand_texts f p)) }
 {
     match f {
         Form::R => {

@@ -1,8 +1,8 @@
 // The words of a program in its bytes.
 ghost use Rattle.std.specs.Prelude.{◌≡◌, ◌+◌, ◌≤◌, length};
 ghost use Rattle.memory.specs.Bytes.{number_at};
-ghost use Rattle.opcode.specs.Opcodes.{opcodeNumber};
-ghost use Rattle.words.specs.Words.{decodeIn};
+ghost use Rattle.opcode.specs.Opcodes.{opcode_number};
+ghost use Rattle.words.specs.Words.{decode_in};
 ghost use Rattle.printing.specs.Passes.{taken_of};
 
 use instruction::parts_of;
@@ -19,7 +19,7 @@ fn word_at(words: &[u8], at: usize) -> u32
 // Nothing else decodes: so the compiler joins the building of an instruction with its taking apart.
 pub(crate) fn parts_at(words: &[u8], at: usize) -> Taken
     requires { at + 4 ≤ length words.now }
-    ensures { result ≡ taken_of (decodeIn opcodeNumber (number_at 4 words.now at)) }
+    ensures { result ≡ taken_of (decode_in opcode_number (number_at 4 words.now at)) }
 {
     match decode(word_at(words, at)) {
         Decoded::Instruction(i) => Taken::Apart(parts_of(i)),

@@ -1,6 +1,6 @@
 // The second pass: the lines are written.
 ghost use Rattle.std.specs.Prelude.{◌≡◌, ◌%◌, ◌≤◌, length};
-ghost use Rattle.printing.specs.Passes.{allWords, printedLines, Put};
+ghost use Rattle.printing.specs.Passes.{all_words, printed_lines, Put};
 
 use crate::lines::put_line;
 use crate::source::parts_at;
@@ -8,8 +8,8 @@ use words::Taken;
 
 pub(crate) fn put_lines(words: &[u8], text: &mut [u8]) -> usize
     requires words_len { length words.now % 4 ≡ 0 }
-    requires words_in_bounds { length (printedLines (allWords words.now)) ≤ length text.old }
-    ensures { Put text.old text.new 0 result (printedLines (allWords words.now)) }
+    requires words_in_bounds { length (printed_lines (all_words words.now)) ≤ length text.old }
+    ensures { Put text.old text.new 0 result (printed_lines (all_words words.now)) }
 {
     let mut at: usize = 0;
     let mut end: usize = 0;

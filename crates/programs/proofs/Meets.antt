@@ -12,25 +12,25 @@ use lib.Seq.{length-sets}
 use borrow.Author.Tests.{leb-true, leb-false, ne_eqb, not-true}
 use Rattle.labels.specs.Bytes.{key_of}
 use Rattle.labels.specs.Reading.{name_at}
-use Rattle.labels.specs.Table.{slots_of, searchIn, notedBy, withLabel}
+use Rattle.labels.specs.Table.{slots_of, search_in, noted_by, with_label}
 use Rattle.labels.specs.declared.table.Slot.{Slot}
 use Rattle.labels.specs.declared.table.Slot.TheVariants as Slot
 use Rattle.labels.specs.declared.table.Noted.TheVariants as N
-use Rattle.opcode.specs.Opcodes.{opcodeIn, form_of}
+use Rattle.opcode.specs.Opcodes.{opcode_in, form_of}
 use Rattle.opcode.specs.declared.Form.{Form}
 use Rattle.opcode.specs.declared.Found.{Found}
 use Rattle.opcode.specs.declared.Found.TheVariants.{Op, Nothing}
 use mathlib.Core.Option.{Option, none, some}
-use Rattle.names.specs.Names.{nameKey}
-use Rattle.lines.specs.Lines.{sayingOf, named, wrong, kindsOf, word_for}
-use Rattle.lines.specs.Reader.{lineRead, instructionRead, operandsRead}
-use Rattle.lines.specs.Code.{isEnd, start_of}
+use Rattle.names.specs.Names.{name_key}
+use Rattle.lines.specs.Lines.{saying_of, named, wrong, kinds_of, word_for}
+use Rattle.lines.specs.Reader.{line_read, instruction_read, operands_read}
+use Rattle.lines.specs.Code.{is_end, start_of}
 use Rattle.lines.specs.declared.Start.{Start}
 use Rattle.lines.specs.declared.Start.TheVariants as Start
 use Rattle.lines.proofs.Starts.{Started, began}
 use Rattle.lines.proofs.Ends.{plain-start}
-use Rattle.programs.specs.Programs.{noLabels, labels_from}
-use Rattle.programs.specs.Code.{tellersOf, Spans, secondBy, oneMore, After, after, defined, slotAfter, labelAfter, startAfter, is_plain, lineAfter}
+use Rattle.programs.specs.Programs.{no_labels, labels_from}
+use Rattle.programs.specs.Code.{tellers_of, Spans, second_by, one_more, After, after, defined, slot_after, label_after, start_after, is_plain, line_after}
 use Rattle.programs.specs.declared.spans.Span.{Span}
 use Rattle.programs.specs.declared.noting.Tally.{Tally}
 use Rattle.programs.specs.declared.noting.Met.{Met}
@@ -39,26 +39,26 @@ use Rattle.programs.proofs.Notes.{text-letter, text-name, Counts, Noting, noting
 
 -- ---- what the code finds
 module _ (table : List ℕ) (place key line : ℕ) (t : Tally) where
-  pub after-new : (r : Slot) → notedBy r ≡ N.New → after (defined t.second t) (withLabel r table place key t.own) ≡ slotAfter r table place key line t
+  pub after-new : (r : Slot) → noted_by r ≡ N.New → after (defined t.second t) (with_label r table place key t.own) ≡ slot_after r table place key line t
   after-new (Slot.Held k) e = absurd (let z : ◌≡◌ {A = ℕ} 0 1 = cc in omega arith)
   after-new (Slot.Free k) e = refl
   after-new Slot.Full e = absurd (let z : ◌≡◌ {A = ℕ} 0 1 = cc in omega arith)
 
-  pub after-again : (r : Slot) → notedBy r ≡ N.Again → after (defined (secondBy t.second line) t) (withLabel r table place key t.own) ≡ slotAfter r table place key line t
+  pub after-again : (r : Slot) → noted_by r ≡ N.Again → after (defined (second_by t.second line) t) (with_label r table place key t.own) ≡ slot_after r table place key line t
   after-again (Slot.Held k) e = refl
   after-again (Slot.Free k) e = absurd (let z : ◌≡◌ {A = ℕ} 0 1 = cc in omega arith)
   after-again Slot.Full e = absurd (let z : ◌≡◌ {A = ℕ} 0 1 = cc in omega arith)
 
-  pub after-full : (r : Slot) → notedBy r ≡ N.NoRoom → after Met.Short (withLabel r table place key t.own) ≡ slotAfter r table place key line t
+  pub after-full : (r : Slot) → noted_by r ≡ N.NoRoom → after Met.Short (with_label r table place key t.own) ≡ slot_after r table place key line t
   after-full (Slot.Held k) e = absurd (let z : ◌≡◌ {A = ℕ} 0 1 = cc in omega arith)
   after-full (Slot.Free k) e = absurd (let z : ◌≡◌ {A = ℕ} 0 1 = cc in omega arith)
   after-full Slot.Full e = refl
 
 -- ---- an instruction counts, right or wrong
-pub instruction-counts : (f : Found) (look : Form → List ℕ → Option ℤ) (u : List ℕ) → Counts (instructionRead f look u)
-instruction-counts (Op op) look u = go (word_for op (operandsRead (kindsOf (form_of op)) (look (form_of op)) u))
+pub instruction-counts : (f : Found) (look : Form → List ℕ → Option ℤ) (u : List ℕ) → Counts (instruction_read f look u)
+instruction-counts (Op op) look u = go (word_for op (operands_read (kinds_of (form_of op)) (look (form_of op)) u))
   where
-    go : (o : Option ℕ) → Counts (sayingOf o)
+    go : (o : Option ℕ) → Counts (saying_of o)
     go none = tt
     go (some w) = tt
 instruction-counts Nothing look u = tt
@@ -68,13 +68,13 @@ module _ (text table : List ℕ) (at before : ℕ) (t : Tally) (g : Noting text 
   -- what is kept of the labels after the line, and the table's length
   abbrev pub KeptBy : Met → List ℕ → Type 0
   KeptBy (Met.Go u) new = Noting text new r.next (before + 1) u.own u.count u.second × (u.own ≤ t.own + 1)
-  KeptBy Met.Short new = length new < 3 * length (labels_from (tellersOf text) 0)
+  KeptBy Met.Short new = length new < 3 * length (labels_from (tellers_of text) 0)
 
   abbrev pub Kept : After → Type 0
   Kept a = KeptBy a.met a.table × (length a.table ≡ length table)
 
-  kept_label : (p : ℕ) → start_of (take (r.stop - at) (drop at text)) ≡ Start.Label p → Kept (labelAfter text table (at + p) (before + 1) t)
-  kept_label p e = go (leb (slots_of table) t.count) (searchIn text table (name_at text (at + p))) refl refl
+  kept_label : (p : ℕ) → start_of (take (r.stop - at) (drop at text)) ≡ Start.Label p → Kept (label_after text table (at + p) (before + 1) t)
+  kept_label p e = go (leb (slots_of table) t.count) (search_in text table (name_at text (at + p))) refl refl
     where
       s : List ℕ
       s = take (r.stop - at) (drop at text)
@@ -82,10 +82,10 @@ module _ (text table : List ℕ) (at before : ℕ) (t : Tally) (g : Noting text 
       line : Started s (Start.Label p)
       line = began s (start_of s) (Start.Label p) refl e
 
-      reads : lineRead noLabels s ≡ named (name_at text (at + p))
-      reads = line.0 noLabels ∙ ap named (sym (text-name text at (r.stop - at) p line.1.1.0 line.1.1.1))
+      reads : line_read no_labels s ≡ named (name_at text (at + p))
+      reads = line.0 no_labels ∙ ap named (sym (text-name text at (r.stop - at) p line.1.1.0 line.1.1.1))
 
-      slot : (x : Slot) → searchIn text table (name_at text (at + p)) ≡ x → t.count < slots_of table → Kept (slotAfter x table (at + p) (key_of (name_at text (at + p))) (before + 1) t)
+      slot : (x : Slot) → search_in text table (name_at text (at + p)) ≡ x → t.count < slots_of table → Kept (slot_after x table (at + p) (key_of (name_at text (at + p))) (before + 1) t)
       slot (Slot.Held h) q b = ((noting-again text table at before t.own t.count t.second g r spans (name_at text (at + p)) reads h q b, omega arith), refl)
       slot (Slot.Free j) q b = (
         (noting-new text table at before t.own t.count t.second g r spans (name_at text (at + p)) reads (at + p) j (text-letter text at (r.stop - at) p line.1.1.0) refl q b, omega arith),
@@ -93,46 +93,46 @@ module _ (text table : List ℕ) (at before : ℕ) (t : Tally) (g : Noting text 
       )
       slot Slot.Full q b = (noting-full text table at before t.own t.count t.second g r spans (name_at text (at + p)) reads q, refl)
 
-      go : (c : Bool) (x : Slot) → leb (slots_of table) t.count ≡ c → searchIn text table (name_at text (at + p)) ≡ x
-          → Kept (cond c (after Met.Short table) (slotAfter (searchIn text table (name_at text (at + p))) table (at + p) (key_of (name_at text (at + p))) (before + 1) t))
+      go : (c : Bool) (x : Slot) → leb (slots_of table) t.count ≡ c → search_in text table (name_at text (at + p)) ≡ x
+          → Kept (cond c (after Met.Short table) (slot_after (search_in text table (name_at text (at + p))) table (at + p) (key_of (name_at text (at + p))) (before + 1) t))
       go true x c q = (noting-short text table at before t.own t.count t.second g r spans (name_at text (at + p)) reads (leb-true _ _ c), refl)
-      go false x c q = slot (searchIn text table (name_at text (at + p))) refl (leb-false _ _ c)
+      go false x c q = slot (search_in text table (name_at text (at + p))) refl (leb-false _ _ c)
 
-  pub kept : Kept (lineAfter text table (take (r.stop - at) (drop at text)) at (before + 1) t)
-  unfolding lineAfter
+  pub kept : Kept (line_after text table (take (r.stop - at) (drop at text)) at (before + 1) t)
+  unfolding line_after
   kept = go (start_of (take (r.stop - at) (drop at text))) refl
     where
       s : List ℕ
       s = take (r.stop - at) (drop at text)
 
-      go : (x : Start) → start_of (take (r.stop - at) (drop at text)) ≡ x → Kept (startAfter text table x at (before + 1) t)
-      go Start.Blank e = ((noting-blank text table at before t.own t.count t.second g r spans (began s (start_of s) Start.Blank refl e noLabels), omega arith), refl)
+      go : (x : Start) → start_of (take (r.stop - at) (drop at text)) ≡ x → Kept (start_after text table x at (before + 1) t)
+      go Start.Blank e = ((noting-blank text table at before t.own t.count t.second g r spans (began s (start_of s) Start.Blank refl e no_labels), omega arith), refl)
       go (Start.Label p) e = kept_label p e
       go (Start.Word key n) e = (
         (
-          noting-other text table at before t.own t.count t.second g r spans (instructionRead (opcodeIn nameKey key) noLabels (drop n s))
-              (began s (start_of s) (Start.Word key n) refl e noLabels) (instruction-counts (opcodeIn nameKey key) noLabels (drop n s)),
+          noting-other text table at before t.own t.count t.second g r spans (instruction_read (opcode_in name_key key) no_labels (drop n s))
+              (began s (start_of s) (Start.Word key n) refl e no_labels) (instruction-counts (opcode_in name_key key) no_labels (drop n s)),
           omega arith,
         ),
         refl,
       )
-      go Start.Other e = ((noting-other text table at before t.own t.count t.second g r spans wrong (began s (start_of s) Start.Other refl e noLabels) tt, omega arith), refl)
+      go Start.Other e = ((noting-other text table at before t.own t.count t.second g r spans wrong (began s (start_of s) Start.Other refl e no_labels) tt, omega arith), refl)
 
-  pub kept-go : (u : Tally) (new : List ℕ) → after (Met.Go u) new ≡ lineAfter text table (take (r.stop - at) (drop at text)) at (before + 1) t
+  pub kept-go : (u : Tally) (new : List ℕ) → after (Met.Go u) new ≡ line_after text table (take (r.stop - at) (drop at text)) at (before + 1) t
       → (Noting text new r.next (before + 1) u.own u.count u.second × (u.own ≤ t.own + 1)) × (length new ≡ length table)
   kept-go u new e = subst Kept (sym e) kept
 
-  pub kept-short : (new : List ℕ) → after Met.Short new ≡ lineAfter text table (take (r.stop - at) (drop at text)) at (before + 1) t
-      → (length new < 3 * length (labels_from (tellersOf text) 0)) × (length new ≡ length table)
+  pub kept-short : (new : List ℕ) → after Met.Short new ≡ line_after text table (take (r.stop - at) (drop at text)) at (before + 1) t
+      → (length new < 3 * length (labels_from (tellers_of text) 0)) × (length new ≡ length table)
   kept-short new e = subst Kept (sym e) kept
 
 -- ---- a line that is an instruction by its last byte
-pub plain-after : (text table s : List ℕ) (at line : ℕ) (t : Tally) → is_plain s ≡ true → after (Met.Go (oneMore t)) table ≡ lineAfter text table s at line t
-unfolding lineAfter
+pub plain-after : (text table s : List ℕ) (at line : ℕ) (t : Tally) → is_plain s ≡ true → after (Met.Go (one_more t)) table ≡ line_after text table s at line t
+unfolding line_after
 plain-after text table s at line t h = sym (go (length s) refl h)
   where
-    go : (n : ℕ) → length s ≡ n → cond (eqb n 0) false (not (isEnd (get_or s (n - 1) 0))) ≡ true → startAfter text table (start_of s) at line t ≡ after (Met.Go (oneMore t)) table
+    go : (n : ℕ) → length s ≡ n → cond (eqb n 0) false (not (is_end (get_or s (n - 1) 0))) ≡ true → start_after text table (start_of s) at line t ≡ after (Met.Go (one_more t)) table
     go zero q h = absurd (let z : ◌≡◌ {A = ℕ} 0 1 = cc in omega arith)
     go (suc k) q h =
-        let i : isEnd (get_or s (suc k - 1) 0) ≡ false = not-true _ (sym (ap (λ (b : Bool). cond b false (not (isEnd (get_or s (suc k - 1) 0)))) (ne_eqb (suc k) 0 (λ z. omega arith))) ∙ h) in
-        plain-start (λ x. startAfter text table x at line t) (after (Met.Go (oneMore t)) table) s k q (ap (λ (m : ℕ). isEnd (get_or s m 0)) (sym (sub-one (suc k))) ∙ i) (λ p e. refl) refl
+        let i : is_end (get_or s (suc k - 1) 0) ≡ false = not-true _ (sym (ap (λ (b : Bool). cond b false (not (is_end (get_or s (suc k - 1) 0)))) (ne_eqb (suc k) 0 (λ z. omega arith))) ∙ h) in
+        plain-start (λ x. start_after text table x at line t) (after (Met.Go (one_more t)) table) s k q (ap (λ (m : ℕ). is_end (get_or s m 0)) (sym (sub-one (suc k))) ∙ i) (λ p e. refl) refl

@@ -11,42 +11,42 @@ use lib.ListN.{length, set, drop, drop_of_length-le}
 use lib.Seq.{sets}
 use Rattle.memory.specs.Bytes.{bytes}
 use Rattle.lines.specs.Lines.{Saying, empty, word, wrong}
-use Rattle.lines.specs.Reader.{lineRead}
-use Rattle.lines.specs.Code.{labelsIn, said_of}
+use Rattle.lines.specs.Reader.{line_read}
+use Rattle.lines.specs.Code.{labels_in, said_of}
 use Rattle.lines.specs.declared.Said.{Said}
 use Rattle.lines.specs.contracts.Said.{the_type}
 use Rattle.lines.specs.declared.Said.TheVariants as Said
-use Rattle.programs.specs.Programs.{lines_of, onSaying}
-use Rattle.programs.specs.Promise.{bytesOfWords}
-use Rattle.programs.specs.Code.{wordsFrom}
+use Rattle.programs.specs.Programs.{lines_of, on_saying}
+use Rattle.programs.specs.Promise.{bytes_of_words}
+use Rattle.programs.specs.Code.{words_from}
 
 -- one run of stores after another
 pub sets-append : (l : List ℕ) (i : ℕ) (xs ys : List ℕ) → sets l i (xs ++ ys) ≡ sets (sets l i xs) (i + length xs) ys
 sets-append l i [] ys = ap (λ (n : ℕ). sets l n ys) (sym (add-zero i))
 sets-append l i (x ∷ xs) ys = sets-append (set l i x) (suc i) xs ys ∙ ap (λ (n : ℕ). sets (sets (set l i x) (suc i) xs) n ys) (omega arith)
 
-pub put_word : (l : List ℕ) (to w : ℕ) (ws : List ℕ) → sets l to (bytesOfWords (w ∷ ws)) ≡ sets (sets l to (bytes 4 w)) (to + 4) (bytesOfWords ws)
-unfolding bytesOfWords bytes
-put_word l to w ws = sets-append l to (bytes 4 w) (bytesOfWords ws)
+pub put_word : (l : List ℕ) (to w : ℕ) (ws : List ℕ) → sets l to (bytes_of_words (w ∷ ws)) ≡ sets (sets l to (bytes 4 w)) (to + 4) (bytes_of_words ws)
+unfolding bytes_of_words bytes
+put_word l to w ws = sets-append l to (bytes 4 w) (bytes_of_words ws)
 
 module _ (text table : List ℕ) (own : ℕ) where
-  pub words-end : (s : List ℕ) (at : ℕ) → length s ≤ at → wordsFrom text table (lines_of (drop at s)) own ≡ []
-  unfolding lines_of wordsFrom
-  words-end s at h = ap (λ (t : List ℕ). wordsFrom text table (lines_of t) own) (drop_of_length-le s h)
+  pub words-end : (s : List ℕ) (at : ℕ) → length s ≤ at → words_from text table (lines_of (drop at s)) own ≡ []
+  unfolding lines_of words_from
+  words-end s at h = ap (λ (t : List ℕ). words_from text table (lines_of t) own) (drop_of_length-le s h)
 
   module _ (ls : List (List ℕ)) (t : List ℕ) (ts : List (List ℕ)) (e : ls ≡ t ∷ ts) where
-    words_are : (x : Saying) → lineRead (labelsIn text table own) t ≡ x
-        → wordsFrom text table ls own ≡ onSaying x (wordsFrom text table ts own) (λ name. wordsFrom text table ts own) (λ w. w ∷ wordsFrom text table ts (own + 1)) (wordsFrom text table ts own)
-    unfolding wordsFrom
+    words_are : (x : Saying) → line_read (labels_in text table own) t ≡ x
+        → words_from text table ls own ≡ on_saying x (words_from text table ts own) (λ name. words_from text table ts own) (λ w. w ∷ words_from text table ts (own + 1)) (words_from text table ts own)
+    unfolding words_from
     words_are x r =
-        ap (λ (l : List (List ℕ)). wordsFrom text table l own) e
-        ∙ ap (λ (x : Saying). onSaying x (wordsFrom text table ts own) (λ name. wordsFrom text table ts own) (λ w. w ∷ wordsFrom text table ts (own + 1)) (wordsFrom text table ts own)) r
+        ap (λ (l : List (List ℕ)). words_from text table l own) e
+        ∙ ap (λ (x : Saying). on_saying x (words_from text table ts own) (λ name. words_from text table ts own) (λ w. w ∷ words_from text table ts (own + 1)) (words_from text table ts own)) r
 
-    pub words-word : (w : ℕ) → lineRead (labelsIn text table own) t ≡ word w → wordsFrom text table ls own ≡ w ∷ wordsFrom text table ts (own + 1)
+    pub words-word : (w : ℕ) → line_read (labels_in text table own) t ≡ word w → words_from text table ls own ≡ w ∷ words_from text table ts (own + 1)
     words-word w r = words_are (word w) r
 
     -- whatever is said but a word: the other three variants
-    pub words-none : (s : List ℕ) (r : Said) → lineRead (labelsIn text table own) t ≡ said_of s r → OneOf (0 ∷ (1 ∷ (3 ∷ []))) (tag_of the_type r) → wordsFrom text table ls own ≡ wordsFrom text table ts own
+    pub words-none : (s : List ℕ) (r : Said) → line_read (labels_in text table own) t ≡ said_of s r → OneOf (0 ∷ (1 ∷ (3 ∷ []))) (tag_of the_type r) → words_from text table ls own ≡ words_from text table ts own
     words-none s Said.Blank r n = words_are empty r
     words-none s Said.Name r n = words_are (said_of s Said.Name) r
     words-none s (Said.Word w) r (inl n) = absurd (omega arith)

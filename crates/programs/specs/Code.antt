@@ -3,17 +3,17 @@ use Rattle.std.specs.Prelude.{ℕ, ◌+◌, ◌-◌, ◌*◌, ◌<◌, ◌≤◌
 use Rattle.std.proofs.Math.Option.{Option, none, some}
 use Rattle.labels.specs.Bytes.{key_of}
 use Rattle.labels.specs.Reading.{name_at}
-use Rattle.labels.specs.Table.{slots_of, searchIn, indexIn, withLabel}
+use Rattle.labels.specs.Table.{slots_of, search_in, index_in, with_label}
 use Rattle.labels.specs.declared.table.Slot.{Slot}
 use Rattle.labels.specs.declared.table.Slot.TheVariants as Slot
 use Rattle.lines.specs.Lines.{Saying}
-use Rattle.lines.specs.Reader.{lineRead}
-use Rattle.lines.specs.Code.{isEnd, start_of, labelsIn}
+use Rattle.lines.specs.Reader.{line_read}
+use Rattle.lines.specs.Code.{is_end, start_of, labels_in}
 use Rattle.lines.specs.declared.Start.{Start}
 use Rattle.lines.specs.declared.Start.TheVariants as Start
-use Rattle.programs.specs.Programs.{lines_of, Teller, Label, label_at, onSaying, noLabels, labels_from, index_of}
+use Rattle.programs.specs.Programs.{lines_of, Teller, Label, label_at, on_saying, no_labels, labels_from, index_of}
 use Rattle.told.specs.declared.Told.{Told}
-use Rattle.programs.specs.Promise.{leftCleared, left_of}
+use Rattle.programs.specs.Promise.{left_cleared, left_of}
 use Rattle.programs.specs.declared.spans.Span.{Span}
 use Rattle.programs.specs.declared.checking.Step.{Step}
 use Rattle.programs.specs.declared.checking.Step.TheVariants as Step
@@ -26,14 +26,14 @@ use Rattle.programs.specs.declared.noting.Labels.{Labels}
 use Rattle.programs.specs.declared.noting.Labels.TheVariants as Labels
 
 abbrev pub reader : List ℕ → Teller
-reader t = λ look. lineRead look t
+reader t = λ look. line_read look t
 
-abbrev pub tellersOf : List ℕ → List Teller
-tellersOf text = map reader (lines_of text)
+abbrev pub tellers_of : List ℕ → List Teller
+tellers_of text = map reader (lines_of text)
 
 -- ---- lines: every byte but an LF is text
-abbrev pub isText : ℕ → Bool
-isText b = not (eqb b 10)
+abbrev pub is_text : ℕ → Bool
+is_text b = not (eqb b 10)
 
 -- a line without the CR before its LF, if it has one
 unfoldable pub stripped : Bool → List ℕ → List ℕ
@@ -51,25 +51,25 @@ pub record Spans (s : List ℕ) (at : ℕ) (r : Span) : Type 0 where
   pub within : r.next ≤ length s
 
 -- ---- labels: the number of the first line that defines one again, or 0; `own` instructions and the labels `seen` stand before a line
-abbrev pub unlessSeen : Option ℕ → ℕ → ℕ → ℕ
-unlessSeen none a b = a
-unlessSeen (some i) a b = b
+abbrev pub unless_seen : Option ℕ → ℕ → ℕ → ℕ
+unless_seen none a b = a
+unless_seen (some i) a b = b
 
-unfoldable pub secondFrom : List Teller → ℕ → ℕ → List Label → ℕ
-secondFrom [] line own seen = 0
-secondFrom (t ∷ ts) line own seen =
-    onSaying (t noLabels)
-    (secondFrom ts (line + 1) own seen)
-    (λ name. unlessSeen (index_of seen name) (secondFrom ts (line + 1) own (seen ++ (label_at name own ∷ []))) line)
-    (λ w. secondFrom ts (line + 1) (own + 1) seen)
-    (secondFrom ts (line + 1) (own + 1) seen)
+unfoldable pub second_from : List Teller → ℕ → ℕ → List Label → ℕ
+second_from [] line own seen = 0
+second_from (t ∷ ts) line own seen =
+    on_saying (t no_labels)
+    (second_from ts (line + 1) own seen)
+    (λ name. unless_seen (index_of seen name) (second_from ts (line + 1) own (seen ++ (label_at name own ∷ []))) line)
+    (λ w. second_from ts (line + 1) (own + 1) seen)
+    (second_from ts (line + 1) (own + 1) seen)
 
 -- what is met of a line, and the table after it
-abbrev pub oneMore : Tally → Tally
-oneMore t = record { own = t.own + 1; count = t.count; second = t.second }
+abbrev pub one_more : Tally → Tally
+one_more t = record { own = t.own + 1; count = t.count; second = t.second }
 
-abbrev pub secondBy : ℕ → ℕ → ℕ
-secondBy second line = cond (eqb second 0) line second
+abbrev pub second_by : ℕ → ℕ → ℕ
+second_by second line = cond (eqb second 0) line second
 
 pub record After : Type 0 where
   pub met : Met
@@ -81,62 +81,62 @@ after met table = record { met = met; table = table }
 abbrev pub defined : ℕ → Tally → Met
 defined second t = Met.Go (record { own = t.own; count = t.count + 1; second = second })
 
-abbrev pub slotAfter : Slot → List ℕ → ℕ → ℕ → ℕ → Tally → After
-slotAfter (Slot.Held k) table place key line t = after (defined (secondBy t.second line) t) table
-slotAfter (Slot.Free k) table place key line t = after (defined t.second t) (withLabel (Slot.Free k) table place key t.own)
-slotAfter Slot.Full table place key line t = after Met.Short table
+abbrev pub slot_after : Slot → List ℕ → ℕ → ℕ → ℕ → Tally → After
+slot_after (Slot.Held k) table place key line t = after (defined (second_by t.second line) t) table
+slot_after (Slot.Free k) table place key line t = after (defined t.second t) (with_label (Slot.Free k) table place key t.own)
+slot_after Slot.Full table place key line t = after Met.Short table
 
-abbrev pub labelAfter : List ℕ → List ℕ → ℕ → ℕ → Tally → After
-labelAfter text table place line t =
+abbrev pub label_after : List ℕ → List ℕ → ℕ → ℕ → Tally → After
+label_after text table place line t =
     cond (leb (slots_of table) t.count) (after Met.Short table)
-    (slotAfter (searchIn text table (name_at text place)) table place (key_of (name_at text place)) line t)
+    (slot_after (search_in text table (name_at text place)) table place (key_of (name_at text place)) line t)
 
-abbrev pub startAfter : List ℕ → List ℕ → Start → ℕ → ℕ → Tally → After
-startAfter text table Start.Blank at line t = after (Met.Go t) table
-startAfter text table (Start.Label p) at line t = labelAfter text table (at + p) line t
-startAfter text table (Start.Word p e) at line t = after (Met.Go (oneMore t)) table
-startAfter text table Start.Other at line t = after (Met.Go (oneMore t)) table
+abbrev pub start_after : List ℕ → List ℕ → Start → ℕ → ℕ → Tally → After
+start_after text table Start.Blank at line t = after (Met.Go t) table
+start_after text table (Start.Label p) at line t = label_after text table (at + p) line t
+start_after text table (Start.Word p e) at line t = after (Met.Go (one_more t)) table
+start_after text table Start.Other at line t = after (Met.Go (one_more t)) table
 
 -- a line that is not empty and ends in neither a space nor a colon
 abbrev pub is_plain : List ℕ → Bool
-is_plain s = cond (eqb (length s) 0) false (not (isEnd (get_or s (length s - 1) 0)))
+is_plain s = cond (eqb (length s) 0) false (not (is_end (get_or s (length s - 1) 0)))
 
-unfoldable pub lineAfter : List ℕ → List ℕ → List ℕ → ℕ → ℕ → Tally → After
-lineAfter text table s at line t = startAfter text table (start_of s) at line t
+unfoldable pub line_after : List ℕ → List ℕ → List ℕ → ℕ → ℕ → Tally → After
+line_after text table s at line t = start_after text table (start_of s) at line t
 
 -- a table has room for the labels of a text, and gives them
 pub record Gives (text table : List ℕ) (second : ℕ) : Type 0 where
-  pub room : 3 * length (labels_from (tellersOf text) 0) ≤ length table
-  pub gives : (name : List ℕ) → indexIn text table name ≡ index_of (labels_from (tellersOf text) 0) name
-  pub second_is : second ≡ secondFrom (tellersOf text) 1 0 []
+  pub room : 3 * length (labels_from (tellers_of text) 0) ≤ length table
+  pub gives : (name : List ℕ) → index_in text table name ≡ index_of (labels_from (tellers_of text) 0) name
+  pub second_is : second ≡ second_from (tellers_of text) 1 0 []
 
 abbrev pub NotedAll : List ℕ → List ℕ → Labels → Type 0
 NotedAll text table (Labels.All second) = Gives text table second
-NotedAll text table Labels.Short = length table < 3 * length (labels_from (tellersOf text) 0)
+NotedAll text table Labels.Short = length table < 3 * length (labels_from (tellers_of text) 0)
 
 -- ---- the first bad line: one that is wrong, or defines a label again
-abbrev pub stepBy : Bool → ℕ → Saying → Step
-stepBy again own x = onSaying x (Step.Go own) (λ name. cond again Step.Bad (Step.Go own)) (λ w. Step.Go (own + 1)) Step.Bad
+abbrev pub step_by : Bool → ℕ → Saying → Step
+step_by again own x = on_saying x (Step.Go own) (λ name. cond again Step.Bad (Step.Go own)) (λ w. Step.Go (own + 1)) Step.Bad
 
-unfoldable pub lineStep : List ℕ → List ℕ → Bool → List ℕ → ℕ → Step
-lineStep text table again t own = stepBy again own (lineRead (labelsIn text table own) t)
+unfoldable pub line_step : List ℕ → List ℕ → Bool → List ℕ → ℕ → Step
+line_step text table again t own = step_by again own (line_read (labels_in text table own) t)
 
-abbrev pub onStep : Step → (ℕ → Checked) → Checked → Checked
-onStep (Step.Go own) go b = go own
-onStep Step.Bad go b = b
+abbrev pub on_step : Step → (ℕ → Checked) → Checked → Checked
+on_step (Step.Go own) go b = go own
+on_step Step.Bad go b = b
 
-unfoldable pub checkFrom : List ℕ → List ℕ → ℕ → List (List ℕ) → ℕ → ℕ → Checked
-checkFrom text table second [] line own = Checked.Words own
-checkFrom text table second (t ∷ ts) line own =
-    onStep (lineStep text table (eqb line second) t own) (λ o. checkFrom text table second ts (line + 1) o) (Checked.Bad line)
+unfoldable pub check_from : List ℕ → List ℕ → ℕ → List (List ℕ) → ℕ → ℕ → Checked
+check_from text table second [] line own = Checked.Words own
+check_from text table second (t ∷ ts) line own =
+    on_step (line_step text table (eqb line second) t own) (λ o. check_from text table second ts (line + 1) o) (Checked.Bad line)
 
 -- ---- the words of the lines that are instructions
-unfoldable pub wordsFrom : List ℕ → List ℕ → List (List ℕ) → ℕ → List ℕ
-wordsFrom text table [] own = []
-wordsFrom text table (t ∷ ts) own =
-    onSaying (lineRead (labelsIn text table own) t) (wordsFrom text table ts own) (λ name. wordsFrom text table ts own)
-    (λ w. w ∷ wordsFrom text table ts (own + 1)) (wordsFrom text table ts own)
+unfoldable pub words_from : List ℕ → List ℕ → List (List ℕ) → ℕ → List ℕ
+words_from text table [] own = []
+words_from text table (t ∷ ts) own =
+    on_saying (line_read (labels_in text table own) t) (words_from text table ts own) (λ name. words_from text table ts own)
+    (λ w. w ∷ words_from text table ts (own + 1)) (words_from text table ts own)
 
 -- ---- what is answered, and left in `words`
 abbrev pub Leaves : List ℕ → List ℕ → List ℕ → Told → List ℕ → Type 0
-Leaves text words table told new = leftCleared told new table ≡ left_of (tellersOf text) words table
+Leaves text words table told new = left_cleared told new table ≡ left_of (tellers_of text) words table

@@ -1,7 +1,7 @@
 // The first bad line of a text, whose labels are in a table.
 ghost use Rattle.std.specs.Prelude.{◌≡◌, ◌<◌, ◌-◌, ◌^◌};
 ghost use Rattle.programs.specs.Programs.{lines_of};
-ghost use Rattle.programs.specs.Code.{lineStep, checkFrom};
+ghost use Rattle.programs.specs.Code.{line_step, check_from};
 
 use crate::spans::span_at;
 use lines::{Said, line};
@@ -21,7 +21,7 @@ pub(crate) enum Checked {
 // One line, where `own` instructions stand before it; `again` where it defines a label that is defined before it.
 fn one_line(text: &[u8], table: &[u64], again: bool, s: &[u8], own: u64) -> Step
     requires { own < 2 ^ 64 - 1 }
-    ensures { result ≡ lineStep text.now table.now again s.now own }
+    ensures { result ≡ line_step text.now table.now again s.now own }
 {
     match line(s, text, table, own) {
         Said::Blank => Step::Go(own),
@@ -38,7 +38,7 @@ fn one_line(text: &[u8], table: &[u64], again: bool, s: &[u8], own: u64) -> Step
 
 // The number of words, or of the first bad line, where line `second` is the first to define a label again.
 pub(crate) fn check(text: &[u8], table: &[u64], second: u64) -> Checked
-    ensures { result ≡ checkFrom text.now table.now second (lines_of text.now) 1 0 }
+    ensures { result ≡ check_from text.now table.now second (lines_of text.now) 1 0 }
 {
     let mut at: usize = 0;
     let mut before: u64 = 0;

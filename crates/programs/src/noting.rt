@@ -1,6 +1,6 @@
 // The labels of a text, noted in a table.
 ghost use Rattle.std.specs.Prelude.{◌≡◌, ◌+◌, ◌<◌, ◌^◌, ◌-◌, length, replicate};
-ghost use Rattle.programs.specs.Code.{oneMore, secondBy, after, labelAfter, is_plain, lineAfter, NotedAll};
+ghost use Rattle.programs.specs.Code.{one_more, second_by, after, label_after, is_plain, line_after, NotedAll};
 
 use crate::spans::span_at;
 use labels::table::{Noted, note};
@@ -29,7 +29,7 @@ pub(crate) enum Labels {
 
 fn one_more(t: Tally) -> Tally
     requires { t.own < 2 ^ 64 - 1 }
-    ensures { result ≡ oneMore t }
+    ensures { result ≡ one_more t }
 {
     Tally {
         own: t.own + 1,
@@ -39,14 +39,14 @@ fn one_more(t: Tally) -> Tally
 }
 
 fn first(second: u64, line: u64) -> u64
-    ensures { result ≡ secondBy second line }
+    ensures { result ≡ second_by second line }
 {
     if second == 0 { line } else { second }
 }
 
 // A label's definition, the name at a place.
 fn note_label(text: &[u8], table: &mut [u64], place: usize, line: u64, t: Tally) -> Met
-    ensures { after result table.new ≡ labelAfter text.now table.old place line t }
+    ensures { after result table.new ≡ label_after text.now table.old place line t }
 {
     if table.len() / 3 <= t.count {
         return Met::Short;
@@ -81,7 +81,7 @@ fn is_plain(s: &[u8]) -> bool
 // A line of the text, from a place on.
 fn note_line(text: &[u8], table: &mut [u64], s: &[u8], at: usize, line: u64, t: Tally) -> Met
     requires { (t.own < 2 ^ 64 - 1) × (at + length s.now < 2 ^ 64) }
-    ensures { after result table.new ≡ lineAfter text.now table.old s.now at line t }
+    ensures { after result table.new ≡ line_after text.now table.old s.now at line t }
 {
     if is_plain(s) {
         return Met::Go(one_more(t));

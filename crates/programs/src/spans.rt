@@ -2,7 +2,7 @@
 ghost use Rattle.std.specs.Prelude.{◌≡◌, true, ◌+◌, ◌-◌, ◌≤◌, ◌<◌, length, take, drop};
 ghost use Rattle.labels.specs.Bytes.{every};
 ghost use Rattle.labels.specs.Reading.{Passed};
-ghost use Rattle.programs.specs.Code.{isText, stripped, Spans};
+ghost use Rattle.programs.specs.Code.{is_text, stripped, Spans};
 
 use labels::text::byte;
 
@@ -16,7 +16,7 @@ pub(crate) struct Span {
 // The place of the next LF, or the end.
 fn next_feed(s: &[u8], at: usize) -> usize
     requires { at ≤ length s.now }
-    ensures { Passed isText s.now at result }
+    ensures { Passed is_text s.now at result }
 {
     let mut n = at;
     loop {
@@ -33,7 +33,7 @@ fn next_feed(s: &[u8], at: usize) -> usize
 // Whether none of eight bytes is an LF: `&` tests all eight, so that the machine can do so at once.
 fn eight_are_text(s: &[u8], n: usize) -> bool
     requires { n + 8 ≤ length s.now }
-    ensures { result ≡ every isText (take 8 (drop n s.now)) }
+    ensures { result ≡ every is_text (take 8 (drop n s.now)) }
 {
     (s[n] != 10)
         & (s[n + 1] != 10)
@@ -48,7 +48,7 @@ fn eight_are_text(s: &[u8], n: usize) -> bool
 // The same, eight bytes a turn.
 fn line_feed(s: &[u8], at: usize) -> usize
     requires { at ≤ length s.now }
-    ensures { Passed isText s.now at result }
+    ensures { Passed is_text s.now at result }
 {
     let mut n = at;
     loop {

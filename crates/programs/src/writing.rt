@@ -2,8 +2,8 @@
 ghost use Rattle.std.specs.Prelude.{◌≡◌, ◌*◌, ◌≤◌, length, replicate};
 ghost use Rattle.std.proofs.lemmas.List.Edits.{sets};
 ghost use Rattle.programs.specs.Programs.{lines_of};
-ghost use Rattle.programs.specs.Promise.{bytesOfWords};
-ghost use Rattle.programs.specs.Code.{wordsFrom};
+ghost use Rattle.programs.specs.Promise.{bytes_of_words};
+ghost use Rattle.programs.specs.Code.{words_from};
 
 use crate::spans::span_at;
 use lines::{Said, line};
@@ -16,8 +16,8 @@ fn wide(w: u32) -> u64
 }
 
 pub(crate) fn write_words(text: &[u8], table: &[u64], words: &mut [u8])
-    requires { 4 * length (wordsFrom text.now table.now (lines_of text.now) 0) ≤ length words.old }
-    ensures { words.new ≡ sets words.old 0 (bytesOfWords (wordsFrom text.now table.now (lines_of text.now) 0)) }
+    requires { 4 * length (words_from text.now table.now (lines_of text.now) 0) ≤ length words.old }
+    ensures { words.new ≡ sets words.old 0 (bytes_of_words (words_from text.now table.now (lines_of text.now) 0)) }
 {
     let mut at: usize = 0;
     let mut own: u64 = 0;

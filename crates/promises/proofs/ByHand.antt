@@ -7,22 +7,22 @@ use lib.ListN.{set}
 use Rattle.checks.proofs as checks
 use Rattle.checked.proofs as checked
 use Rattle.lent.proofs as lent
-use Rattle.execute.specs.World.{worldOf}
-use Rattle.execute.specs.Rules.{rulesOf}
-use Rattle.pending.specs.Pending.{Lists, emptyAnswer, emptyLists, entry_at}
+use Rattle.execute.specs.World.{world_of}
+use Rattle.execute.specs.Rules.{rules_of}
+use Rattle.pending.specs.Pending.{Lists, empty_answer, empty_lists, entry_at}
 use Rattle.step.specs.Step.{Left}
 use Rattle.run.specs.Run.{Answer, run}
 use Rattle.host.specs.Call.{state_of}
-use Rattle.checks.specs.Records.{listed, answerTo, withOne}
-use Rattle.checked.specs.Machine.{ranOver}
+use Rattle.checks.specs.Records.{listed, answer_to, with_one}
+use Rattle.checked.specs.Machine.{ran_over}
 use Rattle.checks.specs.declared.Pending.{Pending}
 use Rattle.checks.proofs.Listed.{listed-injective}
 use Rattle.lent.specs.Lent.{LentStep}
 use Rattle.agreement.specs.Contracts.{Telling}
-use Rattle.agreement.specs.ByHand.{steps, stepsInPlace, stepsLent}
+use Rattle.agreement.specs.ByHand.{steps, steps_in_place, steps_lent}
 use Rattle.promises.specs.ByHand.{ByHand}
 use Rattle.promises.proofs.Laws.{one, ◌&◌}
-use Rattle.promises.proofs.Regrouped.{oneStepOf, ranOf, outcomeOf}
+use Rattle.promises.proofs.Regrouped.{one_step_of, ran_of, outcome_of}
 
 -- records that are listed as one thing are one
 records-one : {n m : ℕ} {l k : List Pending} {h : Lists} → listed n l ≡ h → listed m k ≡ h → l ≡ k
@@ -36,8 +36,8 @@ over f h s t p q = ap₂ f (p ∙ sym q) (records-one (sym s ∙ ap h p) (sym t 
 -- ---- checks
 abbrev appends : Telling checks.append.ended
 appends κs a r e =
-    (r ≡ answerTo a.1.1.0 a.1.0 a.0.now)
-    × (listed (withOne a.1.1.0 a.1.0 a.0.now).count e.0.now ≡ withOne a.1.1.0 a.1.0 a.0.now)
+    (r ≡ answer_to a.1.1.0 a.1.0 a.0.now)
+    × (listed (with_one a.1.1.0 a.1.0 a.0.now).count e.0.now ≡ with_one a.1.1.0 a.1.0 a.0.now)
 
 pub checks·append : ByHand checks.append.ended (λ M 𝓤. checks.append.clauses {M = M} 𝓤) appends
 checks·append =
@@ -45,8 +45,8 @@ checks·append =
 
 abbrev empties : Telling checks.empty.ended
 empties κs a r e =
-    (r ≡ emptyAnswer (listed a.1.0 a.0.now))
-    × (listed (emptyLists (listed a.1.0 a.0.now)).count e.0.now ≡ emptyLists (listed a.1.0 a.0.now))
+    (r ≡ empty_answer (listed a.1.0 a.0.now))
+    × (listed (empty_lists (listed a.1.0 a.0.now)).count e.0.now ≡ empty_lists (listed a.1.0 a.0.now))
 
 pub checks·empty : ByHand checks.empty.ended (λ M 𝓤. checks.empty.clauses {M = M} 𝓤) empties
 checks·empty =
@@ -68,27 +68,27 @@ checks·note-at = (λ M 𝓤 𝓛 m run κs a g r e. refl, λ κs a x y. one (λ
 pub checked·step : ByHand checked.step.ended (λ M 𝓤. checked.step.clauses {M = M} 𝓤) steps
 checked·step = (
   λ M 𝓤 𝓛 m run κs a g r e. refl,
-  λ κs a x y. over (λ (s : Left) l. oneStepOf s & tt & tt & s.world.memory & l & tt & tt) (λ s. s.lists) refl refl,
+  λ κs a x y. over (λ (s : Left) l. one_step_of s & tt & tt & s.world.memory & l & tt & tt) (λ s. s.lists) refl refl,
 )
 
 abbrev runs : Telling checked.run.ended
 runs κs a r e =
-    ranOver r e.1.1.1.0.now e.1.1.1.1.0.now
-    ≡ run a.0.mode (rulesOf a.0) a.1.1.0 (worldOf a.1.0 a.1.1.1.0.now) (listed a.1.1.1.1.1.0 a.1.1.1.1.0.now)
+    ran_over r e.1.1.1.0.now e.1.1.1.1.0.now
+    ≡ run a.0.mode (rules_of a.0) a.1.1.0 (world_of a.1.0 a.1.1.1.0.now) (listed a.1.1.1.1.1.0 a.1.1.1.1.0.now)
 
 pub checked·run : ByHand checked.run.ended (λ M 𝓤. checked.run.clauses {M = M} 𝓤) runs
 checked·run = (
   λ M 𝓤 𝓛 m run κs a g r e. refl,
-  λ κs a x y. over (λ (s : Answer) l. ranOf s & tt & tt & tt & s.world.memory & l & tt & tt) (λ s. s.lists) refl refl,
+  λ κs a x y. over (λ (s : Answer) l. ran_of s & tt & tt & tt & s.world.memory & l & tt & tt) (λ s. s.lists) refl refl,
 )
 
 -- ---- lent
-pub lent·step-in-place : ByHand lent.step_in_place.ended (λ M 𝓤. lent.step_in_place.clauses {M = M} 𝓤) stepsInPlace
+pub lent·step-in-place : ByHand lent.step_in_place.ended (λ M 𝓤. lent.step_in_place.clauses {M = M} 𝓤) steps_in_place
 lent·step-in-place = (
   λ M 𝓤 𝓛 m run κs a g r e. refl,
-  λ κs a x y. over (λ (s : Left) l. outcomeOf s & state_of s.world & tt & s.world.memory & l & tt & tt) (λ s. s.lists) refl refl,
+  λ κs a x y. over (λ (s : Left) l. outcome_of s & state_of s.world & tt & s.world.memory & l & tt & tt) (λ s. s.lists) refl refl,
 )
 
-pub lent·exported·zkir-step : ByHand lent.exported.zkir_step.ended (λ M 𝓤. lent.exported.zkir_step.clauses {M = M} 𝓤) stepsLent
+pub lent·exported·zkir-step : ByHand lent.exported.zkir_step.ended (λ M 𝓤. lent.exported.zkir_step.clauses {M = M} 𝓤) steps_lent
 lent·exported·zkir-step =
     (λ M 𝓤 𝓛 m run κs a g r e. refl, λ κs a x y. over (λ (s : LentStep) l. s.answer & s.state & s.memory & l & tt & tt & tt) (λ s. s.lists) refl refl)

@@ -53,7 +53,7 @@ use Rattle.promises.proofs.Laws.{one, two, three, ◌&◌}
 use Rattle.promises.proofs.Asked.{asked}
 use Rattle.promises.proofs.Tables.{one-deed, one-turn, one_shift}
 use Rattle.promises.proofs.Texts.{one-read, one-said, one_left}
-use Rattle.promises.proofs.Regrouped.{advanceOf, executedOf, oneStepOf, ranOf, goneOf}
+use Rattle.promises.proofs.Regrouped.{advance_of, executed_of, one_step_of, ran_of, gone_of}
 
 -- ---- encoding
 pub encoding·fields·extract-opcode : Determined encoding.fields.extract_opcode.ended encoding.fields.extract_opcode.Reads.Learnt
@@ -425,32 +425,32 @@ execute·admits κs a x y = one (λ r. r & x.1)
 pub execute·word·obey : Determined execute.word.obey.ended execute.word.obey.Reads.Learnt
 execute·word·obey κs a x y =
     asked (λ (s : Stepped). s.checks) x.0.checks y.0.checks
-    (λ (s : Stepped) k. let R = s.world.registers in advanceOf s k & tt & tt & R.values & R.accumulated & R.bounds & s.world.memory & tt)
+    (λ (s : Stepped) k. let R = s.world.registers in advance_of s k & tt & tt & R.values & R.accumulated & R.bounds & s.world.memory & tt)
     refl refl
 
 -- ---- given
 pub given·execute : Determined given.execute.ended given.execute.Reads.Learnt
-given·execute κs a x y = asked (λ (s : Stepped). s.checks) x.0.checks y.0.checks (λ (s : Stepped) k. executedOf s k & tt & tt & tt & s.world.memory & tt) refl refl
+given·execute κs a x y = asked (λ (s : Stepped). s.checks) x.0.checks y.0.checks (λ (s : Stepped) k. executed_of s k & tt & tt & tt & s.world.memory & tt) refl refl
 
 -- ---- step
 pub step·takes : Determined step.takes.ended step.takes.Reads.Learnt
 step·takes κs a x y = one (λ r. r & x.1)
 
 pub step·step : Determined step.step.ended step.step.Reads.Learnt
-step·step κs a x y = one (λ (l : Left). oneStepOf l & tt & tt & l.world.memory & l.lists.values & l.lists.bounds & l.lists.pcs & tt & tt)
+step·step κs a x y = one (λ (l : Left). one_step_of l & tt & tt & l.world.memory & l.lists.values & l.lists.bounds & l.lists.pcs & tt & tt)
 
 pub step·leg·goes-on : Determined step.leg.goes_on.ended step.leg.goes_on.Reads.Learnt
 step·leg·goes-on κs a x y = one (λ r. r & x.1)
 
 pub step·leg·advance : Determined step.leg.advance.ended step.leg.advance.Reads.Learnt
-step·leg·advance κs a x y = asked (λ (l : Leg). l.checks) x.0.checks y.0.checks (λ (l : Leg) k. goneOf l k & tt & tt & tt & tt & l.world.memory & tt) refl refl
+step·leg·advance κs a x y = asked (λ (l : Leg). l.checks) x.0.checks y.0.checks (λ (l : Leg) k. gone_of l k & tt & tt & tt & tt & l.world.memory & tt) refl refl
 
 -- ---- run
 pub run·run-plain : Determined run.run_plain.ended run.run_plain.Reads.Learnt
-run·run-plain κs a x y = one (λ (r : Answer). ranOf r & tt & tt & r.world.memory & r.lists.values & r.lists.bounds & r.lists.pcs & tt & tt)
+run·run-plain κs a x y = one (λ (r : Answer). ran_of r & tt & tt & r.world.memory & r.lists.values & r.lists.bounds & r.lists.pcs & tt & tt)
 
 pub run·run-deferred : Determined run.run_deferred.ended run.run_deferred.Reads.Learnt
-run·run-deferred κs a x y = one (λ (r : Answer). ranOf r & tt & tt & r.world.memory & r.lists.values & r.lists.bounds & r.lists.pcs & tt & tt)
+run·run-deferred κs a x y = one (λ (r : Answer). ran_of r & tt & tt & r.world.memory & r.lists.values & r.lists.bounds & r.lists.pcs & tt & tt)
 
 pub run·legs·stop-of : Determined run.legs.stop_of.ended run.legs.stop_of.Reads.Learnt
 run·legs·stop-of κs a x y = one (λ r. r & x.1)

@@ -12,20 +12,20 @@ use Rattle.run.specs.declared.Ran.{Ran}
 use Rattle.host.specs.Call.{state_of}
 use Rattle.lent.specs.declared.InPlace.{InPlace}
 
-abbrev pub advanceOf : Stepped → Checks → Advance
-advanceOf s cs = record { went = s.went; pc = s.world.pc; halted = s.world.halted; checks = cs }
+abbrev pub advance_of : Stepped → Checks → Advance
+advance_of s cs = record { went = s.went; pc = s.world.pc; halted = s.world.halted; checks = cs }
 
-abbrev pub executedOf : Stepped → Checks → Executed
-executedOf s cs = record { went = s.went; checks = cs; state = state_of s.world }
+abbrev pub executed_of : Stepped → Checks → Executed
+executed_of s cs = record { went = s.went; checks = cs; state = state_of s.world }
 
-abbrev pub oneStepOf : Left → OneStep
-oneStepOf l = record { went = l.went; count = l.lists.count; state = state_of l.world }
+abbrev pub one_step_of : Left → OneStep
+one_step_of l = record { went = l.went; count = l.lists.count; state = state_of l.world }
 
-abbrev pub ranOf : Answer → Ran
-ranOf a = record { stop = a.stop; steps = a.steps; count = a.lists.count; state = state_of a.world }
+abbrev pub ran_of : Answer → Ran
+ran_of a = record { stop = a.stop; steps = a.steps; count = a.lists.count; state = state_of a.world }
 
-abbrev pub goneOf : Leg → Checks → Gone
-goneOf l cs = record { went = l.went; steps = l.steps; checks = cs; pc = l.pc; state = state_of l.world }
+abbrev pub gone_of : Leg → Checks → Gone
+gone_of l cs = record { went = l.went; steps = l.steps; checks = cs; pc = l.pc; state = state_of l.world }
 
-abbrev pub outcomeOf : Left → InPlace
-outcomeOf l = record { went = l.went; count = l.lists.count }
+abbrev pub outcome_of : Left → InPlace
+outcome_of l = record { went = l.went; count = l.lists.count }

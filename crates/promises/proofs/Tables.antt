@@ -9,7 +9,7 @@ use Rattle.opcode.specs.Opcodes.{form_of}
 use Rattle.opcode.specs.declared.Opcode.{Opcode}
 use Rattle.effect.specs.Outcomes.{Outcome, Does, Refuses}
 use Rattle.effect.specs.Effects.{Seen}
-use Rattle.effect.specs.Tables.{Where, isRegisters, isImmediate, isShift, deedOutcome, turnOutcome, DecidesTwo, DecidesOne, DecidesShift}
+use Rattle.effect.specs.Tables.{Where, is_registers, is_immediate, is_shift, deed_outcome, turn_outcome, DecidesTwo, DecidesOne, DecidesShift}
 use Rattle.effect.specs.declared.registers.Operands.{Operands}
 use Rattle.effect.specs.declared.registers.Deed.{Deed}
 use Rattle.effect.specs.declared.registers.Deed.TheVariants as D
@@ -22,45 +22,45 @@ of_either : {X : Type 0} (A : X → Type 0) (t : Bool) (z x y : X) → (A x → 
 of_either A true z x y f p q = f (p.within refl) (q.within refl)
 of_either A false z x y f p q = p.elsewhere refl ∙ sym (q.elsewhere refl)
 
-abbrev deedIn : Outcome → Deed
-deedIn (Refuses r) = D.Refuses r
-deedIn (Does e) = cond (eqb e.rd 0) D.Passes (cond e.checked (D.Checks e.bound e.value) (D.Writes e.bound e.value))
+abbrev deed_in : Outcome → Deed
+deed_in (Refuses r) = D.Refuses r
+deed_in (Does e) = cond (eqb e.rd 0) D.Passes (cond e.checked (D.Checks e.bound e.value) (D.Writes e.bound e.value))
 
-deed-back : (pc : ℕ) (r : Deed) → deedIn (deedOutcome 1 pc r) ≡ r
+deed-back : (pc : ℕ) (r : Deed) → deed_in (deed_outcome 1 pc r) ≡ r
 deed-back pc (D.Writes b v) = refl
 deed-back pc (D.Checks b v) = refl
 deed-back pc D.Passes = refl
 deed-back pc (D.Refuses r) = refl
 
-abbrev turnIn : Outcome → Turn
-turnIn (Refuses r) = T.Refuses r
-turnIn (Does e) = T.Writes e.next e.bound e.value
+abbrev turn_in : Outcome → Turn
+turn_in (Refuses r) = T.Refuses r
+turn_in (Does e) = T.Writes e.next e.bound e.value
 
-turn-back : (r : Turn) → turnIn (turnOutcome 1 r) ≡ r
+turn-back : (r : Turn) → turn_in (turn_outcome 1 r) ≡ r
 turn-back (T.Writes next b v) = refl
 turn-back (T.Refuses r) = refl
 
-abbrev twoSeen : Operands → Seen
-twoSeen o =
+abbrev two_seen : Operands → Seen
+two_seen o =
     record { pc = o.pc; value = λ n. cond (eqb n 2) o.s o.t; bound = λ n. cond (eqb n 1) o.x (cond (eqb n 2) o.y o.z) }
 
-abbrev oneSeen : Source → Seen
-oneSeen o = record { pc = o.pc; value = λ n. o.s; bound = λ n. o.y }
+abbrev one_seen : Source → Seen
+one_seen o = record { pc = o.pc; value = λ n. o.s; bound = λ n. o.y }
 
-pub one-deed : (op : Opcode) (o : Operands) (r s : Deed) → Where (isRegisters (form_of op)) (DecidesTwo op o r) (r ≡ D.Passes)
-    → Where (isRegisters (form_of op)) (DecidesTwo op o s) (s ≡ D.Passes) → r ≡ s
+pub one-deed : (op : Opcode) (o : Operands) (r s : Deed) → Where (is_registers (form_of op)) (DecidesTwo op o r) (r ≡ D.Passes)
+    → Where (is_registers (form_of op)) (DecidesTwo op o s) (s ≡ D.Passes) → r ≡ s
 one-deed op o r s =
-    of_either (DecidesTwo op o) (isRegisters (form_of op)) D.Passes r s
-    (λ p q. sym (deed-back o.pc r) ∙ ap deedIn (p 1 2 3 0 (twoSeen o) [] refl ∙ sym (q 1 2 3 0 (twoSeen o) [] refl)) ∙ deed-back o.pc s)
+    of_either (DecidesTwo op o) (is_registers (form_of op)) D.Passes r s
+    (λ p q. sym (deed-back o.pc r) ∙ ap deed_in (p 1 2 3 0 (two_seen o) [] refl ∙ sym (q 1 2 3 0 (two_seen o) [] refl)) ∙ deed-back o.pc s)
 
 turns-alike : (op : Opcode) (o : Source) (m : List ℕ) (r s : Turn) → DecidesOne op o m r → DecidesOne op o m s → r ≡ s
 turns-alike op o m r s p q =
-    sym (turn-back r) ∙ ap turnIn (p 1 2 3 o.imm (oneSeen o) refl ∙ sym (q 1 2 3 o.imm (oneSeen o) refl)) ∙ turn-back s
+    sym (turn-back r) ∙ ap turn_in (p 1 2 3 o.imm (one_seen o) refl ∙ sym (q 1 2 3 o.imm (one_seen o) refl)) ∙ turn-back s
 
-pub one-turn : (op : Opcode) (o : Source) (m : List ℕ) (r s : Turn) → Where (isImmediate (form_of op)) (DecidesOne op o m r) (r ≡ T.Writes 0 0 0)
-    → Where (isImmediate (form_of op)) (DecidesOne op o m s) (s ≡ T.Writes 0 0 0) → r ≡ s
-one-turn op o m r s = of_either (DecidesOne op o m) (isImmediate (form_of op)) (T.Writes 0 0 0) r s (turns-alike op o m r s)
+pub one-turn : (op : Opcode) (o : Source) (m : List ℕ) (r s : Turn) → Where (is_immediate (form_of op)) (DecidesOne op o m r) (r ≡ T.Writes 0 0 0)
+    → Where (is_immediate (form_of op)) (DecidesOne op o m s) (s ≡ T.Writes 0 0 0) → r ≡ s
+one-turn op o m r s = of_either (DecidesOne op o m) (is_immediate (form_of op)) (T.Writes 0 0 0) r s (turns-alike op o m r s)
 
-pub one_shift : (op : Opcode) (o : Source) (r s : Turn) → Where (isShift (form_of op)) (DecidesShift op o r) (r ≡ T.Writes 0 0 0)
-    → Where (isShift (form_of op)) (DecidesShift op o s) (s ≡ T.Writes 0 0 0) → r ≡ s
-one_shift op o r s = of_either (DecidesShift op o) (isShift (form_of op)) (T.Writes 0 0 0) r s (λ p q. turns-alike op o [] r s (p []) (q []))
+pub one_shift : (op : Opcode) (o : Source) (r s : Turn) → Where (is_shift (form_of op)) (DecidesShift op o r) (r ≡ T.Writes 0 0 0)
+    → Where (is_shift (form_of op)) (DecidesShift op o s) (s ≡ T.Writes 0 0 0) → r ≡ s
+one_shift op o r s = of_either (DecidesShift op o) (is_shift (form_of op)) (T.Writes 0 0 0) r s (λ p q. turns-alike op o [] r s (p []) (q []))

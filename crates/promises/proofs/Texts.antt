@@ -9,7 +9,7 @@ use lib.IntN.{ℤ, pos, negsuc}
 use lib.ListN.{length, length-drop}
 use borrow.Author.Tests.{ltb-true, ltb-false}
 use Rattle.sums.specs.Reader.{Got, got, bad}
-use Rattle.sums.specs.Code.{of64, readTo, Past}
+use Rattle.sums.specs.Code.{of64, read_to, Past}
 use Rattle.sums.specs.declared.Read.{Read}
 use Rattle.sums.specs.declared.Read.TheVariants.{Value, Bad}
 use Rattle.sums.proofs.Differences.{dif-ge, dif-lt}
@@ -32,33 +32,33 @@ raised-back n = go (ltb n (2 ^ 63)) refl
     go true e = let h = ltb-true n (2 ^ 63) e in ap raised (dif-lt n (2 ^ 63) h) ∙ omega arith
     go false e = let h = ltb-false n (2 ^ 63) e in ap raised (dif-ge n (2 ^ 63) h) ∙ omega arith
 
-abbrev readIn : List ℕ → Got → Read
-readIn text (got v rest) = Value (raised v) (length text - length rest)
-readIn text bad = Bad
+abbrev read_in : List ℕ → Got → Read
+read_in text (got v rest) = Value (raised v) (length text - length rest)
+read_in text bad = Bad
 
-read_back : (text : List ℕ) (at : ℕ) (r : Read) → Past text at r → readIn text (readTo text r) ≡ r
+read_back : (text : List ℕ) (at : ℕ) (r : Read) → Past text at r → read_in text (read_to text r) ≡ r
 read_back text at (Value v n) p = let h = p.1 in let k = length-drop n text in ap₂ Value (raised-back v) (omega arith)
 read_back text at Bad p = refl
 
-pub one-read : {B : Type 0} {v : Got} (text : List ℕ) (at : ℕ) (f : Read → B) (r s : Read) → (v ≡ readTo text r) × Past text at r
-    → (v ≡ readTo text s) × Past text at s → f r ≡ f s
-one-read text at f r s p q = ap f (sym (read_back text at r p.1) ∙ ap (readIn text) (sym p.0 ∙ q.0) ∙ read_back text at s q.1)
+pub one-read : {B : Type 0} {v : Got} (text : List ℕ) (at : ℕ) (f : Read → B) (r s : Read) → (v ≡ read_to text r) × Past text at r
+    → (v ≡ read_to text s) × Past text at s → f r ≡ f s
+one-read text at f r s p q = ap f (sym (read_back text at r p.1) ∙ ap (read_in text) (sym p.0 ∙ q.0) ∙ read_back text at s q.1)
 
 -- ---- what a line says
-abbrev saidIn : Saying → Said
-saidIn empty = Said.Blank
-saidIn (named name) = Said.Name
-saidIn (word w) = Said.Word w
-saidIn wrong = Said.Bad
+abbrev said_in : Saying → Said
+said_in empty = Said.Blank
+said_in (named name) = Said.Name
+said_in (word w) = Said.Word w
+said_in wrong = Said.Bad
 
-said-back : (line : List ℕ) (r : Said) → saidIn (said_of line r) ≡ r
+said-back : (line : List ℕ) (r : Said) → said_in (said_of line r) ≡ r
 said-back line Said.Blank = refl
 said-back line Said.Name = refl
 said-back line (Said.Word w) = refl
 said-back line Said.Bad = refl
 
 pub one-said : {B : Type 0} {v : Saying} (line : List ℕ) (f : Said → B) (r s : Said) → v ≡ said_of line r → v ≡ said_of line s → f r ≡ f s
-one-said line f r s p q = ap f (sym (said-back line r) ∙ ap saidIn (sym p ∙ q) ∙ said-back line s)
+one-said line f r s p q = ap f (sym (said-back line r) ∙ ap said_in (sym p ∙ q) ∙ said-back line s)
 
 -- ---- what is left of a text that was assembled
 pub one_left : {B : Type 0} (text words labels : List ℕ) (f : AllLeft → B) (l m : AllLeft) → Assembled text words labels l → Assembled text words labels m

@@ -2,8 +2,8 @@
 use Rattle.std.specs.Prelude.{ℕ, ◌-◌, ◌^◌, ◌≡◌, false, ℤ, pos, negsuc, get_or}
 use mathlib.Core.List.{List, [], ◌∷◌, replicate}
 use Rattle.encoding.specs.Fields.{signed_of}
-use Rattle.opcode.specs.Opcodes.{opcodeNumber}
-use Rattle.words.specs.Words.{encodeIn}
+use Rattle.opcode.specs.Opcodes.{opcode_number}
+use Rattle.words.specs.Words.{encode_in}
 use Rattle.instruction.specs.declared.Instruction.{Instruction}
 use Rattle.instruction.specs.declared.Instruction.TheVariants as N
 use Rattle.instruction.specs.declared.Division.TheVariants.{Div, Rem}
@@ -13,12 +13,12 @@ use Rattle.words.specs.declared.Encoded.{Encoded}
 use Rattle.words.specs.declared.Encoded.TheVariants as E
 use Rattle.state.specs.Held.{value_of}
 use Rattle.state.specs.Registers.{registers, holds}
-use Rattle.state.specs.Formed.{freshAt}
-use Rattle.normalize.specs.Normalizing.{normalizeAndWrite}
+use Rattle.state.specs.Formed.{fresh_at}
+use Rattle.normalize.specs.Normalizing.{normalize_and_write}
 use Rattle.normalize.specs.declared.NormalizationResult.{NormalizationResult}
-use Rattle.effect.specs.Notes.{documentNotes}
+use Rattle.effect.specs.Notes.{document_notes}
 use Rattle.execute.specs.World.{World, world}
-use Rattle.given.specs.Given.{executeOne}
+use Rattle.given.specs.Given.{execute_one}
 use Rattle.execute.specs.declared.Mode.TheVariants.{Plain}
 
 pub data Corner : Type 0 where
@@ -37,11 +37,11 @@ word_in (E.Word w) = w
 word_in (E.Refused r) = 2 ^ 32
 
 abbrev pub word : Instruction → ℕ
-word i = word_in (encodeIn opcodeNumber i)
+word i = word_in (encode_in opcode_number i)
 
 -- limbs 2^30-1 twice, normalised
 abbrev pub normalised : NormalizationResult
-normalised = (normalizeAndWrite (freshAt 0) 1 (2 ^ 30 - 1) (2 ^ 30 - 1)).result
+normalised = (normalize_and_write (fresh_at 0) 1 (2 ^ 30 - 1) (2 ^ 30 - 1)).result
 
 -- R1 holds a and R2 b; R3 holds 7, which no corner gives
 abbrev pub holding : ℕ → ℕ → World
@@ -49,7 +49,7 @@ holding a b = world 0 false (registers (0 ∷ a ∷ b ∷ 7 ∷ replicate 12 0) 
 
 -- what R3 holds after an instruction on them
 abbrev pub stores : (ℕ → ℕ → ℕ → Instruction) → ℕ → ℕ → ℕ
-stores op a b = value_of (holds (executeOne Plain documentNotes (op 3 1 2) (holding a b)).world.registers 3)
+stores op a b = value_of (holds (execute_one Plain document_notes (op 3 1 2) (holding a b)).world.registers 3)
 
 -- negsuc n is -1 - n
 abbrev pub paper : List Corner

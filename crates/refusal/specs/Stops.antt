@@ -18,20 +18,20 @@ number_of (ListFull pc) = 8
 number_of Malformed = 9
 
 -- the table's third column, but that document 02 (A2) makes the particular of 2 the first byte that is missing
-abbrev pub particularOf : Refusal → ℕ
-particularOf (DivisorZero pc) = pc
-particularOf (Beyond missing) = missing
-particularOf (Misaligned address) = address
-particularOf (BadOpcode word) = word
-particularOf (UnusedBits word) = word
-particularOf (PcMisaligned pc) = pc
-particularOf (PcBeyond pc) = pc
-particularOf (ListFull pc) = pc
-particularOf Malformed = 0
+abbrev pub particular_of : Refusal → ℕ
+particular_of (DivisorZero pc) = pc
+particular_of (Beyond missing) = missing
+particular_of (Misaligned address) = address
+particular_of (BadOpcode word) = word
+particular_of (UnusedBits word) = word
+particular_of (PcMisaligned pc) = pc
+particular_of (PcBeyond pc) = pc
+particular_of (ListFull pc) = pc
+particular_of Malformed = 0
 
 -- the refusal of a number and a particular, by which the definitions of every crate name it
-abbrev pub refusalOf : ℕ → ℕ → Refusal
-refusalOf k n =
+abbrev pub refusal_of : ℕ → ℕ → Refusal
+refusal_of k n =
     get_or
     (Malformed ∷ DivisorZero n ∷ Beyond n ∷ Misaligned n ∷ BadOpcode n ∷ UnusedBits n ∷ PcMisaligned n ∷ PcBeyond n ∷ ListFull n ∷ [])
     k
@@ -45,8 +45,8 @@ code_of Ecall = 65
 code_of (Refused r) = number_of r
 
 -- "particular 0 at stops"
-abbrev pub particularAt : Stop → ℕ
-particularAt Fuel = 0
-particularAt Ebreak = 0
-particularAt Ecall = 0
-particularAt (Refused r) = particularOf r
+abbrev pub particular_at : Stop → ℕ
+particular_at Fuel = 0
+particular_at Ebreak = 0
+particular_at Ecall = 0
+particular_at (Refused r) = particular_of r

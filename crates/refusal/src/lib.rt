@@ -1,6 +1,6 @@
 // Why a step or a call is refused, and why a run stops (document 01, "Stops and refusals").
 ghost use Rattle.std.specs.Prelude.{◌≡◌};
-ghost use Rattle.refusal.specs.Stops.{number_of, particularOf, code_of, particularAt};
+ghost use Rattle.refusal.specs.Stops.{number_of, particular_of, code_of, particular_at};
 
 // In the order of document 01's numbers, 1 to 9, each with the pc, the missing byte, the address or the word that it names.
 #[derive(Drop)]
@@ -41,7 +41,7 @@ pub fn number_of(r: Refusal) -> u64
 }
 
 pub fn particular_of(r: Refusal) -> u64
-    ensures { result ≡ particularOf r }
+    ensures { result ≡ particular_of r }
 {
     match r {
         Refusal::DivisorZero { pc } => pc,
@@ -70,7 +70,7 @@ pub fn code_of(s: Stop) -> u64
 
 // A refused stop's particular; 0 at the others.
 pub fn particular_at(s: Stop) -> u64
-    ensures { result ≡ particularAt s }
+    ensures { result ≡ particular_at s }
 {
     match s {
         Stop::Fuel => 0,

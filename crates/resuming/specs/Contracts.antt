@@ -17,30 +17,30 @@ machine state memory = record { state = state; memory = memory }
 
 -- a run: state, memory, and what is no machine
 module _ (κs : Lfts 3) (a : Args zkir_run.signature κs) where
-  abbrev pub machineGiven : Machine
-  machineGiven = machine a.0.now a.1.0.now
+  abbrev pub machine_given : Machine
+  machine_given = machine a.0.now a.1.0.now
 
-  abbrev pub machineLeft : Leaves zkir_run.ended κs a → Machine
-  machineLeft x = machine x.1.0 x.1.1.0
+  abbrev pub machine_left : Leaves zkir_run.ended κs a → Machine
+  machine_left x = machine x.1.0 x.1.1.0
 
 -- a writing: state, memory, output
 module _ (κs : Lfts 3) (a : Args zkir_checkpoint_write.signature κs) where
-  abbrev pub machineToWrite : Machine
-  machineToWrite = machine a.0.now a.1.0.now
+  abbrev pub machine_to_write : Machine
+  machine_to_write = machine a.0.now a.1.0.now
 
-  abbrev pub outputGiven : List ℕ
-  outputGiven = a.1.1.0.now
+  abbrev pub output_given : List ℕ
+  output_given = a.1.1.0.now
 
-  abbrev pub outputLeft : Leaves zkir_checkpoint_write.ended κs a → List ℕ
-  outputLeft x = x.1.1.1.0
+  abbrev pub output_left : Leaves zkir_checkpoint_write.ended κs a → List ℕ
+  output_left x = x.1.1.1.0
 
 -- a reading: image, state, memory
 module _ (κs : Lfts 3) (a : Args zkir_checkpoint_read.signature κs) where
-  abbrev pub imageToRead : List ℕ
-  imageToRead = a.0.now
+  abbrev pub image_to_read : List ℕ
+  image_to_read = a.0.now
 
-  abbrev pub machineLent : Machine
-  machineLent = machine a.1.0.now a.1.1.0.now
+  abbrev pub machine_lent : Machine
+  machine_lent = machine a.1.0.now a.1.1.0.now
 
-  abbrev pub machineRead : Leaves zkir_checkpoint_read.ended κs a → Machine
-  machineRead x = machine x.1.1.0 x.1.1.1.0
+  abbrev pub machine_read : Leaves zkir_checkpoint_read.ended κs a → Machine
+  machine_read x = machine x.1.1.0 x.1.1.1.0

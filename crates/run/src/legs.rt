@@ -1,7 +1,7 @@
 // A run as its legs: where it begins, and where it is after a leg. Whoever goes through the legs lists what each asks for, in its
 // own form.
 ghost use Rattle.std.specs.Prelude.{◌≡◌, ◌-◌};
-ghost use Rattle.run.specs.Run.{stopOf};
+ghost use Rattle.run.specs.Run.{stop_of};
 ghost use Rattle.run.specs.Legs.{begun, next};
 
 use execute::{Choices, Went};
@@ -21,7 +21,7 @@ pub struct Going {
 }
 
 pub fn stop_of(went: Went) -> Stop
-    ensures { result ≡ stopOf went }
+    ensures { result ≡ stop_of went }
 {
     match went {
         Went::On => Stop::Fuel,

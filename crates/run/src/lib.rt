@@ -1,11 +1,11 @@
 // The fuelled run, in both modes.
 ghost use Rattle.std.specs.Prelude.{◌≡◌, ◌+◌, ◌^◌, ◌<◌};
-ghost use Rattle.execute.specs.World.{worldOf};
-ghost use Rattle.execute.specs.Rules.{documentRules};
+ghost use Rattle.execute.specs.World.{world_of};
+ghost use Rattle.execute.specs.Rules.{document_rules};
 ghost use Rattle.execute.specs.declared.Mode.TheVariants.{Plain, Deferred};
 ghost use Rattle.pending.specs.Pending.{lists};
 ghost use Rattle.run.specs.Run.{run, ran};
-ghost use Rattle.run.specs.Legs.{comesTo};
+ghost use Rattle.run.specs.Legs.{comes_to};
 
 use execute::{Choices, Mode};
 use legs::Going;
@@ -34,7 +34,7 @@ fn go(
     count: usize,
 ) -> Ran
     requires { begun.steps + begun.left < 2 ^ 64 }
-    ensures { ran result m.new values.new bounds.new pcs.new ≡ comesTo begun m.old (lists count values.old bounds.old pcs.old) }
+    ensures { ran result m.new values.new bounds.new pcs.new ≡ comes_to begun m.old (lists count values.old bounds.old pcs.old) }
 {
     let mut r = begun;
     let mut listed = count;
@@ -66,7 +66,7 @@ pub fn run_plain(
     pcs: &mut [u64],
     count: usize,
 ) -> Ran
-    ensures { ran result m.new values.new bounds.new pcs.new ≡ run Plain documentRules fuel (worldOf s m.old) (lists count values.old bounds.old pcs.old) }
+    ensures { ran result m.new values.new bounds.new pcs.new ≡ run Plain document_rules fuel (world_of s m.old) (lists count values.old bounds.old pcs.old) }
 {
     let taken = takes(Mode::Plain, s, values.len(), bounds.len(), pcs.len(), count);
     let choices = Choices { mode: Mode::Plain };
@@ -90,7 +90,7 @@ pub fn run_deferred(
     pcs: &mut [u64],
     count: usize,
 ) -> Ran
-    ensures { ran result m.new values.new bounds.new pcs.new ≡ run Deferred documentRules fuel (worldOf s m.old) (lists count values.old bounds.old pcs.old) }
+    ensures { ran result m.new values.new bounds.new pcs.new ≡ run Deferred document_rules fuel (world_of s m.old) (lists count values.old bounds.old pcs.old) }
 {
     let taken = takes(
         Mode::Deferred,

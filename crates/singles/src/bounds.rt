@@ -1,6 +1,6 @@
 // Notes of bits: `bound`.
 ghost use Rattle.std.specs.Prelude.{◌≡◌};
-ghost use Rattle.bound.specs.Bits.{bits_of, afterAdd, afterLarger, afterMul, afterDiv, afterAnd, afterShl, afterSrl, afterSra, after_cmp, afterLoad, needsCheck};
+ghost use Rattle.bound.specs.Bits.{bits_of, after_add, after_larger, after_mul, after_div, after_and, after_shl, after_srl, after_sra, after_cmp, after_load, needs_check};
 
 #[unsafe(no_mangle)]
 pub extern "C" fn oracle_bound_from_constant(x: u64) -> u8
@@ -11,63 +11,63 @@ pub extern "C" fn oracle_bound_from_constant(x: u64) -> u8
 
 #[unsafe(no_mangle)]
 pub extern "C" fn oracle_bound_after_add(a: u8, b: u8) -> u8
-    ensures { result ≡ afterAdd a b }
+    ensures { result ≡ after_add a b }
 {
     bound::after_add(a, b)
 }
 
 #[unsafe(no_mangle)]
 pub extern "C" fn oracle_bound_after_sub(a: u8, b: u8) -> u8
-    ensures { result ≡ afterLarger a b }
+    ensures { result ≡ after_larger a b }
 {
     bound::after_larger(a, b)
 }
 
 #[unsafe(no_mangle)]
 pub extern "C" fn oracle_bound_after_mul(a: u8, b: u8) -> u8
-    ensures { result ≡ afterMul a b }
+    ensures { result ≡ after_mul a b }
 {
     bound::after_mul(a, b)
 }
 
 #[unsafe(no_mangle)]
 pub extern "C" fn oracle_bound_after_and(a: u8, b: u8) -> u8
-    ensures { result ≡ afterAnd a b }
+    ensures { result ≡ after_and a b }
 {
     bound::after_and(a, b)
 }
 
 #[unsafe(no_mangle)]
 pub extern "C" fn oracle_bound_after_move(source: u8, destination: u8) -> u8
-    ensures { result ≡ afterLarger source destination }
+    ensures { result ≡ after_larger source destination }
 {
     bound::after_larger(source, destination)
 }
 
 #[unsafe(no_mangle)]
 pub extern "C" fn oracle_bound_after_div(a: u8) -> u8
-    ensures { result ≡ afterDiv a }
+    ensures { result ≡ after_div a }
 {
     bound::after_div(a)
 }
 
 #[unsafe(no_mangle)]
 pub extern "C" fn oracle_bound_after_shl(b: u8, k: u64) -> u8
-    ensures { result ≡ afterShl b k }
+    ensures { result ≡ after_shl b k }
 {
     bound::after_shl(b, k)
 }
 
 #[unsafe(no_mangle)]
 pub extern "C" fn oracle_bound_after_srl(b: u8, k: u64) -> u8
-    ensures { result ≡ afterSrl b k }
+    ensures { result ≡ after_srl b k }
 {
     bound::after_srl(b, k)
 }
 
 #[unsafe(no_mangle)]
 pub extern "C" fn oracle_bound_after_sra(b: u8, k: u64) -> u8
-    ensures { result ≡ afterSra b k }
+    ensures { result ≡ after_sra b k }
 {
     bound::after_sra(b, k)
 }
@@ -81,14 +81,14 @@ pub extern "C" fn oracle_bound_after_cmp() -> u8
 
 #[unsafe(no_mangle)]
 pub extern "C" fn oracle_bound_after_load(size: u64) -> u8
-    ensures { result ≡ afterLoad size }
+    ensures { result ≡ after_load size }
 {
     bound::after_load(size)
 }
 
 #[unsafe(no_mangle)]
 pub extern "C" fn oracle_bound_needs_check(b: u8) -> bool
-    ensures { result ≡ needsCheck b }
+    ensures { result ≡ needs_check b }
 {
     bound::needs_check(b)
 }

@@ -2,8 +2,8 @@
 ghost use Rattle.std.specs.Prelude.{◌≡◌, ◌+◌, ◌%◌, ◌^◌};
 ghost use Rattle.encoding.specs.Fields.{extended};
 ghost use Rattle.value.specs.Forty.{add40, sub40, mul40, and40, or40, xor40, shl40, shr40, sra40, slt40, ult40};
-ghost use Rattle.value.specs.Product.{mulhOf};
-ghost use Rattle.value.specs.Division.{div_of, remOf, divuOf, remuOf};
+ghost use Rattle.value.specs.Product.{mulh_of};
+ghost use Rattle.value.specs.Division.{div_of, rem_of, divu_of, remu_of};
 
 #[unsafe(no_mangle)]
 pub extern "C" fn oracle_value_add(a: u64, b: u64) -> u64
@@ -84,7 +84,7 @@ pub extern "C" fn oracle_value_ult(a: u64, b: u64) -> bool
 
 #[unsafe(no_mangle)]
 pub extern "C" fn oracle_value_mulh(a: u64, b: u64) -> u64
-    ensures { result ≡ mulhOf a b }
+    ensures { result ≡ mulh_of a b }
 {
     value::product::mulh(a, b)
 }
@@ -98,21 +98,21 @@ pub extern "C" fn oracle_value_div(a: u64, b: u64) -> u64
 
 #[unsafe(no_mangle)]
 pub extern "C" fn oracle_value_rem(a: u64, b: u64) -> u64
-    ensures { result ≡ remOf a b }
+    ensures { result ≡ rem_of a b }
 {
     value::division::rem(a, b)
 }
 
 #[unsafe(no_mangle)]
 pub extern "C" fn oracle_value_divu(a: u64, b: u64) -> u64
-    ensures { result ≡ divuOf a b }
+    ensures { result ≡ divu_of a b }
 {
     value::division::divu(a, b)
 }
 
 #[unsafe(no_mangle)]
 pub extern "C" fn oracle_value_remu(a: u64, b: u64) -> u64
-    ensures { result ≡ remuOf a b }
+    ensures { result ≡ remu_of a b }
 {
     value::division::remu(a, b)
 }

@@ -1,7 +1,7 @@
 // Fields, kinds and raw encoders of words: `encoding`.
 ghost use Rattle.std.specs.Prelude.{◌≡◌};
 ghost use Rattle.encoding.specs.Fields.{field, signed_of};
-ghost use Rattle.encoding.specs.Kinds.{isR, isI, isS, is_b, isJ};
+ghost use Rattle.encoding.specs.Kinds.{is_r, is_i, is_s, is_b, is_j};
 ghost use Rattle.encoding.specs.Words.{rWord, iWord, sWord, jWord};
 
 #[unsafe(no_mangle)]
@@ -90,21 +90,21 @@ pub extern "C" fn oracle_extract_offset_signed(word: u32) -> i32
 
 #[unsafe(no_mangle)]
 pub extern "C" fn oracle_is_rtype(word: u32) -> bool
-    ensures { result ≡ isR (field 0 7 word) }
+    ensures { result ≡ is_r (field 0 7 word) }
 {
     encoding::is_rtype(word)
 }
 
 #[unsafe(no_mangle)]
 pub extern "C" fn oracle_is_itype(word: u32) -> bool
-    ensures { result ≡ isI (field 0 7 word) }
+    ensures { result ≡ is_i (field 0 7 word) }
 {
     encoding::is_itype(word)
 }
 
 #[unsafe(no_mangle)]
 pub extern "C" fn oracle_is_stype(word: u32) -> bool
-    ensures { result ≡ isS (field 0 7 word) }
+    ensures { result ≡ is_s (field 0 7 word) }
 {
     encoding::is_stype(word)
 }
@@ -118,7 +118,7 @@ pub extern "C" fn oracle_is_btype(word: u32) -> bool
 
 #[unsafe(no_mangle)]
 pub extern "C" fn oracle_is_jtype(word: u32) -> bool
-    ensures { result ≡ isJ (field 0 7 word) }
+    ensures { result ≡ is_j (field 0 7 word) }
 {
     encoding::is_jtype(word)
 }

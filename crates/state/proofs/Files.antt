@@ -7,7 +7,7 @@ use lib.ListN.{get_or, set}
 use native.Mathlib.Omega.{arith}
 use native.Mathlib.Numerals.{add-one}
 use Rattle.state.specs.Held.{Held, Whole, Limbs, value_of, settled, kept, waits}
-use Rattle.state.specs.Registers.{Registers, registers, holds, place, normalise, normaliseTo}
+use Rattle.state.specs.Registers.{Registers, registers, holds, place, normalise, normalise_to}
 
 -- for the code: `if i == 0 { return; }`, and the stores
 pub place_none : (k v : ℕ) (w : Bool) (b : ℕ) (R : Registers) → k ≡ 0 → place k v w b R ≡ R
@@ -47,6 +47,6 @@ pub normalise-set : (n : ℕ) (R : Registers) → (n % 16 ≡ 0 → ⊥)
 unfolding normalise
 normalise-set n R e = place_set (n % 16) _ _ _ R e ∙ rw (kept-settled (holds R n), waits-settled (holds R n), set_same R.bounds (n % 16) 0)
 
-pub normaliseTo-more : (k : ℕ) (R : Registers) → normaliseTo (k + 1) R ≡ normalise (k + 1) (normaliseTo k R)
-unfolding normaliseTo
-normaliseTo-more k R = rw (add-one k)
+pub normalise_to-more : (k : ℕ) (R : Registers) → normalise_to (k + 1) R ≡ normalise (k + 1) (normalise_to k R)
+unfolding normalise_to
+normalise_to-more k R = rw (add-one k)

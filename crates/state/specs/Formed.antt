@@ -6,38 +6,38 @@ use Rattle.state.specs.Registers.{Registers, holds, noted, registers}
 use Rattle.state.specs.declared.State.{State}
 
 -- "Accumulated limbs are below 2^30"
-unfoldable pub limbsFit : Held → Bool
-limbsFit (Whole n) = true
-limbsFit (Limbs low high) = ltb low (2 ^ 30) && ltb high (2 ^ 30)
+unfoldable pub limbs_fit : Held → Bool
+limbs_fit (Whole n) = true
+limbs_fit (Limbs low high) = ltb low (2 ^ 30) && ltb high (2 ^ 30)
 
 unfoldable pub is_zero : Held → Bool
 is_zero (Whole n) = eqb n 0
 is_zero (Limbs low high) = false
 
 -- "Bounds are notes of 0 to 64 bits"
-unfoldable pub registerFits : Registers → ℕ → Bool
-registerFits R n = leb (noted R n) 64 && limbsFit (holds R n)
+unfoldable pub register_fits : Registers → ℕ → Bool
+register_fits R n = leb (noted R n) 64 && limbs_fit (holds R n)
 
 -- "R0 is whole, zero, bound 0"
-unfoldable pub zeroFits : Registers → Bool
-zeroFits R = is_zero (holds R 0) && eqb (noted R 0) 0
+unfoldable pub zero_fits : Registers → Bool
+zero_fits R = is_zero (holds R 0) && eqb (noted R 0) 0
 
 -- p holds at each number below n
 unfoldable pub all_below : (ℕ → Bool) → ℕ → Bool
 all_below p zero = true
 all_below p (suc n) = p n && all_below p n
 
-unfoldable pub wellFormed : Registers → Bool
-wellFormed R = zeroFits R && all_below (registerFits R) 16
+unfoldable pub well_formed : Registers → Bool
+well_formed R = zero_fits R && all_below (register_fits R) 16
 
 -- of the marks: no register is accumulated
-unfoldable pub allWhole : List Bool → Bool
-allWhole fs = all_below (λ n. not (get_or fs n false)) 16
+unfoldable pub all_whole : List Bool → Bool
+all_whole fs = all_below (λ n. not (get_or fs n false)) 16
 
 -- a state's registers
-abbrev pub registersOf : State → Registers
-registersOf s = registers s.regs s.accumulated s.bounds
+abbrev pub registers_of : State → Registers
+registers_of s = registers s.regs s.accumulated s.bounds
 
 -- "Fresh registers are whole 0, bound 0"
-abbrev pub freshAt : ℕ → State
-freshAt pc = record { pc = pc; halted = false; regs = replicate 16 0; accumulated = replicate 16 false; bounds = replicate 16 0 }
+abbrev pub fresh_at : ℕ → State
+fresh_at pc = record { pc = pc; halted = false; regs = replicate 16 0; accumulated = replicate 16 false; bounds = replicate 16 0 }

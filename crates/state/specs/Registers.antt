@@ -37,9 +37,9 @@ unfoldable pub normalise : ℕ → Registers → Registers
 normalise n R = put R n (settled (holds R n)) (noted R n)
 
 -- R1 to Rk, one after another
-unfoldable pub normaliseTo : ℕ → Registers → Registers
-normaliseTo zero R = R
-normaliseTo (suc k) R = normalise (suc k) (normaliseTo k R)
+unfoldable pub normalise_to : ℕ → Registers → Registers
+normalise_to zero R = R
+normalise_to (suc k) R = normalise (suc k) (normalise_to k R)
 
 -- two of the three lists become what f makes of them, whatever the bounds
 abbrev pub Becomes : (Registers → Registers) → List ℕ → List Bool → List ℕ → List Bool → Type 0

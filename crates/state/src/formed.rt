@@ -2,10 +2,10 @@
 ghost use Rattle.std.specs.Prelude.{◌≡◌, ◌&&◌, leb, eqb};
 ghost use Rattle.state.specs.Held.{held_of};
 ghost use Rattle.state.specs.Registers.{registers};
-ghost use Rattle.state.specs.Formed.{limbsFit, is_zero, registerFits, wellFormed, allWhole};
+ghost use Rattle.state.specs.Formed.{limbs_fit, is_zero, register_fits, well_formed, all_whole};
 
 fn fits(waits: bool, v: u64, bound: u8) -> bool
-    ensures { result ≡ (leb bound 64 && limbsFit (held_of waits v)) }
+    ensures { result ≡ (leb bound 64 && limbs_fit (held_of waits v)) }
 {
     if 64 < bound {
         return false;
@@ -34,7 +34,7 @@ fn fits_at<'a>(
     bounds: &'a [u8; 16],
     n: u8,
 ) -> bool
-    ensures { result ≡ registerFits (registers regs.now accumulated.now bounds.now) n }
+    ensures { result ≡ register_fits (registers regs.now accumulated.now bounds.now) n }
 {
     let i = (n % 16) as usize;
     fits(accumulated[i], regs[i], bounds[i])
@@ -45,7 +45,7 @@ pub fn well_formed<'a>(
     accumulated: &'a [bool; 16],
     bounds: &'a [u8; 16],
 ) -> bool
-    ensures { result ≡ wellFormed (registers regs.now accumulated.now bounds.now) }
+    ensures { result ≡ well_formed (registers regs.now accumulated.now bounds.now) }
 {
     if !zero_fits(accumulated[0], regs[0], bounds[0]) {
         return false;
@@ -62,7 +62,7 @@ pub fn well_formed<'a>(
 
 // Whether no register is accumulated.
 pub fn all_whole(accumulated: &[bool; 16]) -> bool
-    ensures { result ≡ allWhole accumulated.now }
+    ensures { result ≡ all_whole accumulated.now }
 {
     let mut i: usize = 0;
     while i < 16 {

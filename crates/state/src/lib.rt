@@ -1,6 +1,6 @@
 // The machine's state and its registers.
 ghost use Rattle.std.specs.Prelude.{◌≡◌};
-ghost use Rattle.state.specs.Formed.{freshAt};
+ghost use Rattle.state.specs.Formed.{fresh_at};
 
 pub mod formed; // formed.rt: the states that refusal 9 turns away
 pub mod registers; // registers.rt: the registers, in three lent arrays
@@ -36,7 +36,7 @@ pub fn together(
 
 // "Fresh registers are whole 0, bound 0."
 pub fn fresh(pc: u64) -> State
-    ensures { result ≡ freshAt pc }
+    ensures { result ≡ fresh_at pc }
 {
     together(pc, false, [0; 16], [false; 16], [0; 16])
 }

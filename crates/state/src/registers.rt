@@ -1,7 +1,7 @@
 // The registers, in three lent arrays: reading, writing, normalising. They are numbered modulo 16.
 ghost use Rattle.std.specs.Prelude.{◌≡◌, ◌%◌, ◌<◌, ◌^◌, false, get_or};
 ghost use Rattle.state.specs.Held.{value_of, low_of, high_of, held_of};
-ghost use Rattle.state.specs.Registers.{held_at, bound_at, registers, place, normalise, normaliseTo, Becomes};
+ghost use Rattle.state.specs.Registers.{held_at, bound_at, registers, place, normalise, normalise_to, Becomes};
 
 fn value_of(waits: bool, v: u64) -> u64
     ensures { result ≡ value_of (held_of waits v) }
@@ -105,7 +105,7 @@ pub fn normalise(regs: &mut [u64; 16], accumulated: &mut [bool; 16], n: u8)
 
 // R1 to R15.
 pub fn normalise_all(regs: &mut [u64; 16], accumulated: &mut [bool; 16])
-    ensures { Becomes (normaliseTo 15) regs.old accumulated.old regs.new accumulated.new }
+    ensures { Becomes (normalise_to 15) regs.old accumulated.old regs.new accumulated.new }
 {
     let mut k: u8 = 0;
     while k < 15 {

@@ -15,12 +15,12 @@ use Rattle.execute.specs.Rules.{Rules}
 use Rattle.execute.specs.declared.Mode.{Mode}
 use Rattle.execute.specs.declared.Went.{Went}
 use Rattle.execute.specs.declared.Went.TheVariants as W
-use Rattle.pending.specs.Pending.{Lists, Check, roomOf, listing}
+use Rattle.pending.specs.Pending.{Lists, Check, room_of, listing}
 use Rattle.pending.specs.declared.Room.{Room}
 use Rattle.pending.specs.declared.Room.TheVariants.{Unlent, Left}
 use Rattle.pending.proofs.Lists.{unlent-stays}
-use Rattle.step.specs.Step.{left, stepIn, step_of, goesOn, counted}
-use Rattle.step.specs.Leg.{Leg, leg, later, unlisted, passing, legIn}
+use Rattle.step.specs.Step.{left, step_in, step_of, goes_on, counted}
+use Rattle.step.specs.Leg.{Leg, leg, later, unlisted, passing, leg_in}
 
 -- a step of a loop that may go on
 pub one_more : (fuel n : ℕ) → n < fuel → n + 1 ≤ fuel
@@ -36,35 +36,35 @@ steps-eq : {g : Went} {w : World} {cs : List Check} {pc : ℕ} (a b : ℕ) → a
 steps-eq a b e = rw e
 
 module _ (k : Mode) (room : Room) (R : Rules) (fuel n : ℕ) (w v : World) (g : Went) (cs : List Check) (more : n < fuel)
-    (one : stepped g v cs ≡ stepIn k room R w) where
-  pub passes_on : (goesOn g && unlisted cs room) ≡ true → later n (legIn (fuel - n) k room R w) ≡ later (n + 1) (legIn (fuel - (n + 1)) k room R v)
-  unfolding legIn
+    (one : stepped g v cs ≡ step_in k room R w) where
+  pub passes_on : (goes_on g && unlisted cs room) ≡ true → later n (leg_in (fuel - n) k room R w) ≡ later (n + 1) (leg_in (fuel - (n + 1)) k room R v)
+  unfolding leg_in
   passes_on e =
       let z : fuel - n ≡ suc (fuel - (n + 1)) = omega arith in
       rw (z, ← one, e) (steps-eq _ _ (omega arith))
 
-  pub ends : (goesOn g && unlisted cs room) ≡ false → later n (legIn (fuel - n) k room R w) ≡ leg g (n + counted g) v cs w.pc
-  unfolding legIn
+  pub ends : (goes_on g && unlisted cs room) ≡ false → later n (leg_in (fuel - n) k room R w) ≡ leg g (n + counted g) v cs w.pc
+  unfolding leg_in
   ends e =
       let z : fuel - n ≡ suc (fuel - (n + 1)) = omega arith in
       rw (z, ← one, e)
 
 module _ (k : Mode) (room : Room) (R : Rules) (fuel : ℕ) (w : World) where
-  pub runs-dry : (n : ℕ) → fuel ≤ n → later n (legIn (fuel - n) k room R w) ≡ leg W.On n w [] w.pc
-  unfolding legIn
+  pub runs-dry : (n : ℕ) → fuel ≤ n → later n (leg_in (fuel - n) k room R w) ≡ leg W.On n w [] w.pc
+  unfolding leg_in
   runs-dry n h =
       let z : fuel - n ≡ 0 = omega arith in
       rw z (steps-eq _ _ (omega arith))
 
-  pub begins : later 0 (legIn (fuel - 0) k room R w) ≡ legIn fuel k room R w
+  pub begins : later 0 (leg_in (fuel - 0) k room R w) ≡ leg_in fuel k room R w
   begins =
       let z : fuel - 0 ≡ fuel = omega arith in
       rw z (steps-eq _ _ (omega arith))
 
-one-step-leg : (k : Mode) (room : Room) (R : Rules) (l : Lists) (pc : ℕ) (g : Went) (cs : List Check) (v : World) (a : Leg) → roomOf l ≡ room
-    → a ≡ cond (goesOn g && unlisted cs room) (later 1 (legIn 0 k room R v)) (leg g (counted g) v cs pc)
+one-step-leg : (k : Mode) (room : Room) (R : Rules) (l : Lists) (pc : ℕ) (g : Went) (cs : List Check) (v : World) (a : Leg) → room_of l ≡ room
+    → a ≡ cond (goes_on g && unlisted cs room) (later 1 (leg_in 0 k room R v)) (leg g (counted g) v cs pc)
     → left a.went a.world (listing a.checks a.pc l) ≡ left g v (listing cs pc l)
-unfolding legIn goesOn unlisted listing
+unfolding leg_in goes_on unlisted listing
 one-step-leg k room R l pc W.On [] v a u e = rw e
 one-step-leg k Unlent R l pc W.On (c ∷ cs) v a u e = rw e (ap (left W.On v) (sym (unlent-stays (c ∷ cs) pc l u)))
 one-step-leg k (Left n) R l pc W.On (c ∷ cs) v a u e = rw e
@@ -72,10 +72,10 @@ one-step-leg k room R l pc W.Ebreak cs v a u e = rw e
 one-step-leg k room R l pc W.Ecall cs v a u e = rw e
 one-step-leg k room R l pc (W.Refused r) cs v a u e = rw e
 
-pub step-is-leg : (k : Mode) (R : Rules) (w : World) (l : Lists) (a : Leg) → a ≡ legIn 1 k (roomOf l) R w
+pub step-is-leg : (k : Mode) (R : Rules) (w : World) (l : Lists) (a : Leg) → a ≡ leg_in 1 k (room_of l) R w
     → left a.went a.world (listing a.checks a.pc l) ≡ step_of k R w l
-unfolding legIn step_of
-step-is-leg k R w l a e = let s = stepIn k (roomOf l) R w in one-step-leg k (roomOf l) R l w.pc s.went s.checks s.world a refl e
+unfolding leg_in step_of
+step-is-leg k R w l a e = let s = step_in k (room_of l) R w in one-step-leg k (room_of l) R l w.pc s.went s.checks s.world a refl e
 
 pub at_most_one : (g : Went) → counted g ≤ 1
 unfolding counted
@@ -84,8 +84,8 @@ at_most_one W.Ebreak = omega arith
 at_most_one W.Ecall = omega arith
 at_most_one (W.Refused r) = omega arith
 
-counts : (g : Went) → goesOn g ≡ true → 0 < counted g
-unfolding counted goesOn
+counts : (g : Went) → goes_on g ≡ true → 0 < counted g
+unfolding counted goes_on
 counts W.On e = omega arith
 counts W.Ebreak e = let z : ◌≡◌ {A = ℕ} 0 1 = cc in absurd (omega arith)
 counts W.Ecall e = let z : ◌≡◌ {A = ℕ} 0 1 = cc in absurd (omega arith)
@@ -96,20 +96,20 @@ module _ (k : Mode) (room : Room) (R : Rules) where
   abbrev begun : Bool → Leg → World → Stepped → Leg
   begun t a w s = cond t (later 1 a) (leg s.went (counted s.went) s.world s.checks w.pc)
 
-  pub leg-within : (n : ℕ) (w : World) → (legIn n k room R w).steps ≤ n
-  unfolding legIn
+  pub leg-within : (n : ℕ) (w : World) → (leg_in n k room R w).steps ≤ n
+  unfolding leg_in
   leg-within zero w = omega arith
-  leg-within (suc n) w = let s = stepIn k room R w in told s (passing room s) (legIn n k room R s.world) (leg-within n s.world)
+  leg-within (suc n) w = let s = step_in k room R w in told s (passing room s) (leg_in n k room R s.world) (leg-within n s.world)
     where
       told : (s : Stepped) (t : Bool) (a : Leg) → a.steps ≤ n → (begun t a w s).steps ≤ suc n
       told s true a h = omega arith
       told s false a h = omega (arith, at_most_one s.went)
 
-  pub leg-moves : (n : ℕ) (w : World) → 0 < n → goesOn (legIn n k room R w).went ≡ true → 0 < (legIn n k room R w).steps
-  unfolding legIn
+  pub leg-moves : (n : ℕ) (w : World) → 0 < n → goes_on (leg_in n k room R w).went ≡ true → 0 < (leg_in n k room R w).steps
+  unfolding leg_in
   leg-moves zero w h e = absurd (omega arith)
-  leg-moves (suc n) w h e = let s = stepIn k room R w in told s (passing room s) (legIn n k room R s.world) e
+  leg-moves (suc n) w h e = let s = step_in k room R w in told s (passing room s) (leg_in n k room R s.world) e
     where
-      told : (s : Stepped) (t : Bool) (a : Leg) → goesOn (begun t a w s).went ≡ true → 0 < (begun t a w s).steps
+      told : (s : Stepped) (t : Bool) (a : Leg) → goes_on (begun t a w s).went ≡ true → 0 < (begun t a w s).steps
       told s true a e = omega arith
       told s false a e = counts s.went e

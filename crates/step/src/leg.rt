@@ -2,12 +2,12 @@
 // that lists them.
 ghost use Rattle.std.specs.Prelude.{◌≡◌, ◌&&◌, ◌≤◌};
 ghost use Rattle.state.specs.Registers.{registers};
-ghost use Rattle.pending.specs.Pending.{checksOf};
-ghost use Rattle.execute.specs.World.{worldOf};
-ghost use Rattle.execute.specs.Rules.{rulesOf};
+ghost use Rattle.pending.specs.Pending.{checks_of};
+ghost use Rattle.execute.specs.World.{world_of};
+ghost use Rattle.execute.specs.Rules.{rules_of};
 ghost use Rattle.execute.specs.Starts.{advanced, started};
-ghost use Rattle.step.specs.Step.{stepIn, goesOn, counted};
-ghost use Rattle.step.specs.Leg.{unlisted, legIn, gone};
+ghost use Rattle.step.specs.Step.{step_in, goes_on, counted};
+ghost use Rattle.step.specs.Leg.{unlisted, leg_in, gone};
 
 use execute::{Advance, Choices, Start, Went, word};
 use memory::Fetched;
@@ -25,7 +25,7 @@ pub struct Gone {
 }
 
 pub fn goes_on(went: Went) -> bool
-    ensures { result ≡ goesOn went }
+    ensures { result ≡ goes_on went }
 {
     match went {
         Went::On => true,
@@ -48,7 +48,7 @@ fn counted(went: Went) -> u64
 
 // Whether there is nothing to be listed.
 fn unlisted(checks: Checks, room: Room) -> bool
-    ensures { result ≡ unlisted (checksOf checks) room }
+    ensures { result ≡ unlisted (checks_of checks) room }
 {
     match checks {
         Checks::Nothing => true,
@@ -60,7 +60,7 @@ fn unlisted(checks: Checks, room: Room) -> bool
 }
 
 fn passes(went: Went, checks: Checks, room: Room) -> bool
-    ensures { result ≡ (goesOn went && unlisted (checksOf checks) room) }
+    ensures { result ≡ (goes_on went && unlisted (checks_of checks) room) }
 {
     if !goes_on(went) {
         return false;
@@ -76,7 +76,7 @@ fn step_in(
     bounds: &mut [u8; 16],
     m: &mut [u8],
 ) -> Advance
-    ensures { advanced result (registers regs.new accumulated.new bounds.new) m.new ≡ stepIn start.choices.mode start.room (rulesOf start.choices) (started start (registers regs.old accumulated.old bounds.old) m.old) }
+    ensures { advanced result (registers regs.new accumulated.new bounds.new) m.new ≡ step_in start.choices.mode start.room (rules_of start.choices) (started start (registers regs.old accumulated.old bounds.old) m.old) }
 {
     match memory::fetch(m, start.pc) {
         Fetched::Word(word) => word::obey(start, word, regs, accumulated, bounds, m),
@@ -86,7 +86,7 @@ fn step_in(
 
 // At most `fuel` steps, up to and with the first that has something to list. 9 is tested by the caller.
 pub fn advance(choices: Choices, room: Room, s: State, fuel: u64, m: &mut [u8]) -> Gone
-    ensures { gone result m.new ≡ legIn fuel choices.mode room (rulesOf choices) (worldOf s m.old) }
+    ensures { gone result m.new ≡ leg_in fuel choices.mode room (rules_of choices) (world_of s m.old) }
 {
     let mut regs = s.regs;
     let mut accumulated = s.accumulated;

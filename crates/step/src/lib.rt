@@ -1,11 +1,11 @@
 // A single step: the word at the pc is fetched and obeyed, and the checks that it asks for are listed.
 ghost use Rattle.std.specs.Prelude.{◌≡◌, ◌&&◌};
-ghost use Rattle.state.specs.Formed.{registersOf};
-ghost use Rattle.execute.specs.World.{worldOf};
+ghost use Rattle.state.specs.Formed.{registers_of};
+ghost use Rattle.execute.specs.World.{world_of};
 ghost use Rattle.execute.specs.Execute.{admits};
-ghost use Rattle.execute.specs.Rules.{rulesOf};
-ghost use Rattle.pending.specs.Pending.{lists, lengthsFit};
-ghost use Rattle.step.specs.Step.{step, oneStep};
+ghost use Rattle.execute.specs.Rules.{rules_of};
+ghost use Rattle.pending.specs.Pending.{lists, lengths_fit};
+ghost use Rattle.step.specs.Step.{step, one_step};
 
 use execute::{Choices, Mode, Went};
 use pending::room_at;
@@ -23,7 +23,7 @@ pub struct OneStep {
 
 // Whether the mode and the lists take such arguments: 9 otherwise.
 pub fn takes(mode: Mode, s: State, values: usize, bounds: usize, pcs: usize, count: usize) -> bool
-    ensures { result ≡ (admits mode (registersOf s) && lengthsFit values bounds pcs count) }
+    ensures { result ≡ (admits mode (registers_of s) && lengths_fit values bounds pcs count) }
 {
     if !execute::admits(mode, &s.regs, &s.accumulated, &s.bounds) {
         return false;
@@ -41,7 +41,7 @@ pub fn step(
     pcs: &mut [u64],
     count: usize,
 ) -> OneStep
-    ensures { oneStep result m.new values.new bounds.new pcs.new ≡ step choices.mode (rulesOf choices) (worldOf s m.old) (lists count values.old bounds.old pcs.old) }
+    ensures { one_step result m.new values.new bounds.new pcs.new ≡ step choices.mode (rules_of choices) (world_of s m.old) (lists count values.old bounds.old pcs.old) }
 {
     let mode = choices.mode;
     if !takes(mode, s, values.len(), bounds.len(), pcs.len(), count) {

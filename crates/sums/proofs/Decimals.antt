@@ -6,11 +6,11 @@ use mathlib.Core.Option.{Option, none}
 use Prim.Native.Nat.{ℕ, ◌+◌, ◌-◌, ◌*◌, ◌^◌, ◌≤◌, ◌<◌}
 use native.Mathlib.Omega.{arith}
 use lib.ListN.{drop}
-use Rattle.labels.specs.Bytes.{isDigit, decimal, decimalFrom, head_of}
+use Rattle.labels.specs.Bytes.{is_digit, decimal, decimal_from, head_of}
 use Rattle.sums.specs.Sums.{checked, signed}
 use Rattle.labels.specs.Reading.{run_of, past}
-use Rattle.sums.specs.Reader.{bad, given, digitsRead}
-use Rattle.sums.specs.Code.{sign_of, valueRead, readTo, Past, read_of}
+use Rattle.sums.specs.Reader.{bad, given, digits_read}
+use Rattle.sums.specs.Code.{sign_of, value_read, read_to, Past, read_of}
 use Rattle.sums.specs.declared.numbers.Both.{Both}
 use Rattle.sums.specs.declared.numbers.Both.TheVariants.{Of, Over}
 use Rattle.labels.proofs.Spans.{tail-drop, past_stop, run-stop, run_on}
@@ -18,48 +18,48 @@ use Rattle.sums.proofs.Differences.{signed-dif, dif-high, dif-low}
 use Rattle.labels.proofs.Steps.{Going, starts, goes_on, class-inside}
 
 pub record Counting (s : List ℕ) (at v n : ℕ) : Type 0 where
-  pub going : Going isDigit s at n
-  pub value : decimal (run_of isDigit (drop at s)) ≡ decimalFrom v (run_of isDigit (drop n s))
+  pub going : Going is_digit s at n
+  pub value : decimal (run_of is_digit (drop at s)) ≡ decimal_from v (run_of is_digit (drop n s))
 
 pub counts : (s : List ℕ) (n : ℕ) → Counting s n 0 n
-counts s n = record { going = starts isDigit s n; value = refl }
+counts s n = record { going = starts is_digit s n; value = refl }
 
 module _ (s : List ℕ) (at v n : ℕ) (g : Counting s at v n) where
-  next : isDigit (head_of (drop n s)) ≡ true → decimalFrom v (run_of isDigit (drop n s)) ≡ decimalFrom (v * 10 + (head_of (drop n s) - 48)) (run_of isDigit (drop (n + 1) s))
-  unfolding decimalFrom
-  next h = ap (decimalFrom v) (run_on isDigit (drop n s) refl h) ∙ ap (λ (t : List ℕ). decimalFrom (v * 10 + (head_of (drop n s) - 48)) (run_of isDigit t)) (tail-drop s n)
+  next : is_digit (head_of (drop n s)) ≡ true → decimal_from v (run_of is_digit (drop n s)) ≡ decimal_from (v * 10 + (head_of (drop n s) - 48)) (run_of is_digit (drop (n + 1) s))
+  unfolding decimal_from
+  next h = ap (decimal_from v) (run_on is_digit (drop n s) refl h) ∙ ap (λ (t : List ℕ). decimal_from (v * 10 + (head_of (drop n s) - 48)) (run_of is_digit t)) (tail-drop s n)
 
-  pub counts-on : isDigit (head_of (drop n s)) ≡ true → Counting s at (v * 10 + (head_of (drop n s) - 48)) (n + 1)
-  counts-on h = record { going = goes_on isDigit s at n g.going refl h; value = g.value ∙ next h }
+  pub counts-on : is_digit (head_of (drop n s)) ≡ true → Counting s at (v * 10 + (head_of (drop n s) - 48)) (n + 1)
+  counts-on h = record { going = goes_on is_digit s at n g.going refl h; value = g.value ∙ next h }
 
-  pub counted : isDigit (head_of (drop n s)) ≡ false → decimal (run_of isDigit (drop at s)) ≡ v
-  unfolding decimalFrom
-  counted h = g.value ∙ ap (decimalFrom v) (run-stop isDigit (drop n s) h)
+  pub counted : is_digit (head_of (drop n s)) ≡ false → decimal (run_of is_digit (drop at s)) ≡ v
+  unfolding decimal_from
+  counted h = g.value ∙ ap (decimal_from v) (run-stop is_digit (drop n s) h)
 
-  moved : isDigit (head_of (drop at s)) ≡ true → isDigit (head_of (drop n s)) ≡ false → at ≡ n → ⊥
-  moved a h e = let q : true ≡ false = sym a ∙ ap (λ (k : ℕ). isDigit (head_of (drop k s))) e ∙ h in let k : ◌≡◌ {A = ℕ} 0 1 = cc in omega arith
+  moved : is_digit (head_of (drop at s)) ≡ true → is_digit (head_of (drop n s)) ≡ false → at ≡ n → ⊥
+  moved a h e = let q : true ≡ false = sym a ∙ ap (λ (k : ℕ). is_digit (head_of (drop k s))) e ∙ h in let k : ◌≡◌ {A = ℕ} 0 1 = cc in omega arith
 
-  pub digits-end : (negative : Bool) (b : Both) → isDigit (head_of (drop at s)) ≡ true → isDigit (head_of (drop n s)) ≡ false → checked (signed (sign_of negative) v) ≡ valueRead b
-      → (digitsRead (sign_of negative) (drop at s) ≡ readTo s (read_of b n)) × Past s at (read_of b n)
-  unfolding digitsRead
+  pub digits-end : (negative : Bool) (b : Both) → is_digit (head_of (drop at s)) ≡ true → is_digit (head_of (drop n s)) ≡ false → checked (signed (sign_of negative) v) ≡ value_read b
+      → (digits_read (sign_of negative) (drop at s) ≡ read_to s (read_of b n)) × Past s at (read_of b n)
+  unfolding digits_read
   digits-end negative b a h e = (
-    ap (λ (c : Bool). cond c (given (checked (signed (sign_of negative) (decimal (run_of isDigit (drop at s))))) (past isDigit (drop at s))) bad) a
-        ∙ ap (λ (m : ℕ). given (checked (signed (sign_of negative) m)) (past isDigit (drop at s))) (counted h)
-        ∙ ap (λ (o : Option _). given o (past isDigit (drop at s))) e
-        ∙ ap (given (valueRead b)) (g.going.from ∙ past_stop isDigit (drop n s) h) ∙ known b,
+    ap (λ (c : Bool). cond c (given (checked (signed (sign_of negative) (decimal (run_of is_digit (drop at s))))) (past is_digit (drop at s))) bad) a
+        ∙ ap (λ (m : ℕ). given (checked (signed (sign_of negative) m)) (past is_digit (drop at s))) (counted h)
+        ∙ ap (λ (o : Option _). given o (past is_digit (drop at s))) e
+        ∙ ap (given (value_read b)) (g.going.from ∙ past_stop is_digit (drop n s) h) ∙ known b,
     within b,
   )
     where
-      known : (b : Both) → given (valueRead b) (drop n s) ≡ readTo s (read_of b n)
+      known : (b : Both) → given (value_read b) (drop n s) ≡ read_to s (read_of b n)
       known (Of x) = refl
       known Over = refl
 
       within : (b : Both) → Past s at (read_of b n)
-      within (Of x) = let i = class-inside isDigit s at refl a in let m = moved a h in let o = g.going.on in (omega arith, g.going.within (omega arith))
+      within (Of x) = let i = class-inside is_digit s at refl a in let m = moved a h in let o = g.going.on in (omega arith, g.going.within (omega arith))
       within Over = tt
 
-  grows : (v : ℕ) (ds : List ℕ) → v ≤ decimalFrom v ds
-  unfolding decimalFrom
+  grows : (v : ℕ) (ds : List ℕ) → v ≤ decimal_from v ds
+  unfolding decimal_from
   grows v [] = omega arith
   grows v (d ∷ ds) = let i = grows (v * 10 + (d - 48)) ds in omega arith
 
@@ -67,14 +67,14 @@ module _ (s : List ℕ) (at v n : ℕ) (g : Counting s at v n) where
   too_many true m h = ap checked (signed-dif true m) ∙ dif-low 0 m (omega arith)
   too_many false m h = ap checked (signed-dif false m) ∙ dif-high m 0 (omega arith)
 
-  pub digits-over : (negative : Bool) → isDigit (head_of (drop at s)) ≡ true → isDigit (head_of (drop n s)) ≡ true → 922337203685477580 < v → digitsRead (sign_of negative) (drop at s) ≡ bad
-  unfolding digitsRead
+  pub digits-over : (negative : Bool) → is_digit (head_of (drop at s)) ≡ true → is_digit (head_of (drop n s)) ≡ true → 922337203685477580 < v → digits_read (sign_of negative) (drop at s) ≡ bad
+  unfolding digits_read
   digits-over negative a h o =
-      let l = grows (v * 10 + (head_of (drop n s) - 48)) (run_of isDigit (drop (n + 1) s)) in
-      let e : decimal (run_of isDigit (drop at s)) ≡ decimalFrom (v * 10 + (head_of (drop n s) - 48)) (run_of isDigit (drop (n + 1) s)) = g.value ∙ next h in
-      ap (λ (c : Bool). cond c (given (checked (signed (sign_of negative) (decimal (run_of isDigit (drop at s))))) (past isDigit (drop at s))) bad) a
-      ∙ ap (λ (o : Option _). given o (past isDigit (drop at s))) (too_many negative (decimal (run_of isDigit (drop at s))) (omega arith))
+      let l = grows (v * 10 + (head_of (drop n s) - 48)) (run_of is_digit (drop (n + 1) s)) in
+      let e : decimal (run_of is_digit (drop at s)) ≡ decimal_from (v * 10 + (head_of (drop n s) - 48)) (run_of is_digit (drop (n + 1) s)) = g.value ∙ next h in
+      ap (λ (c : Bool). cond c (given (checked (signed (sign_of negative) (decimal (run_of is_digit (drop at s))))) (past is_digit (drop at s))) bad) a
+      ∙ ap (λ (o : Option _). given o (past is_digit (drop at s))) (too_many negative (decimal (run_of is_digit (drop at s))) (omega arith))
 
-pub digits-none : (negative : Bool) (t : List ℕ) → isDigit (head_of t) ≡ false → digitsRead (sign_of negative) t ≡ bad
-unfolding digitsRead
-digits-none negative t h = ap (λ (c : Bool). cond c (given (checked (signed (sign_of negative) (decimal (run_of isDigit t)))) (past isDigit t)) bad) h
+pub digits-none : (negative : Bool) (t : List ℕ) → is_digit (head_of t) ≡ false → digits_read (sign_of negative) t ≡ bad
+unfolding digits_read
+digits-none negative t h = ap (λ (c : Bool). cond c (given (checked (signed (sign_of negative) (decimal (run_of is_digit t)))) (past is_digit t)) bad) h

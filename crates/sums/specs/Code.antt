@@ -1,7 +1,7 @@
 -- Inner: what the answers say of the text that was read.
 use Rattle.std.specs.Prelude.{ℕ, ◌^◌, ◌<◌, ◌≤◌, Bool, true, false, cond, List, eqb, ℤ, length, drop}
 use Rattle.std.proofs.Math.Option.{Option, none, some}
-use Rattle.labels.specs.Table.{indexIn}
+use Rattle.labels.specs.Table.{index_in}
 use Rattle.sums.specs.Sums.{Sign, plus, minus, Op, add, sub, dif, distance}
 use Rattle.sums.specs.Reader.{Got, got, bad}
 use Rattle.sums.specs.declared.Read.{Read}
@@ -13,9 +13,9 @@ use Rattle.sums.specs.declared.numbers.Both.TheVariants.{Of, Over}
 abbrev pub of64 : ℕ → ℤ
 of64 n = dif n (2 ^ 63)
 
-abbrev pub valueRead : Both → Option ℤ
-valueRead (Of n) = some (of64 n)
-valueRead Over = none
+abbrev pub value_read : Both → Option ℤ
+value_read (Of n) = some (of64 n)
+value_read Over = none
 
 abbrev pub sign_of : Bool → Sign
 sign_of true = minus
@@ -24,16 +24,16 @@ sign_of false = plus
 abbrev pub op_of : ℕ → Op
 op_of c = cond (eqb c 43) add sub
 
-abbrev pub signAt : ℕ → ℕ
-signAt c = cond (eqb c 43) 43 (cond (eqb c 45) 45 0)
+abbrev pub sign_at : ℕ → ℕ
+sign_at c = cond (eqb c 43) 43 (cond (eqb c 45) 45 0)
 
-unfoldable pub lookIn : List ℕ → List ℕ → ℕ → List ℕ → Option ℤ
-lookIn text table base name = distance base (indexIn text table name)
+unfoldable pub look_in : List ℕ → List ℕ → ℕ → List ℕ → Option ℤ
+look_in text table base name = distance base (index_in text table name)
 
 -- what an answer says of the text s
-abbrev pub readTo : List ℕ → Read → Got
-readTo s (Value v n) = got (of64 v) (drop n s)
-readTo s Bad = bad
+abbrev pub read_to : List ℕ → Read → Got
+read_to s (Value v n) = got (of64 v) (drop n s)
+read_to s Bad = bad
 
 abbrev pub Past : List ℕ → ℕ → Read → Type 0
 Past s at (Value v n) = (at < n) × (n ≤ length s)

@@ -2,7 +2,7 @@
 -- sixteen deep": what can be written, as trees that hold every space; the text of a tree; its value.
 use Rattle.std.specs.Prelude.{ℕ, zero, suc, ◌*◌, ◌^◌, Bool, true, cond, List, [], ◌∷◌, ◌++◌, ◌≡◌, ltb, ℤ, pos, negsuc, neg_ℤ, ◌+ℤ◌, ◌-ℤ◌}
 use Rattle.std.proofs.Math.Option.{Option, none, some}
-use Rattle.labels.specs.Bytes.{isName, is_number, decimal, spaces}
+use Rattle.labels.specs.Bytes.{is_name, is_number, decimal, spaces}
 
 pub data Sign : Type 0 where
   unsigned plus minus : Sign
@@ -14,7 +14,7 @@ pub data Op : Type 0 where
 mutual
   pub data Term : Type 0 where
     number : Sign → (ds : List ℕ) → is_number ds ≡ true → Term
-    label : (name : List ℕ) → isName name ≡ true → Term
+    label : (name : List ℕ) → is_name name ≡ true → Term
     group : ℕ → Term → Rest → ℕ → Term
 
   pub data Rest : Type 0 where
@@ -25,27 +25,27 @@ pub record Sum : Type 0 where
   pub first : Term
   pub rest : Rest
 
-abbrev pub signText : Sign → List ℕ
-signText unsigned = []
-signText plus = 43 ∷ []
-signText minus = 45 ∷ []
+abbrev pub sign_text : Sign → List ℕ
+sign_text unsigned = []
+sign_text plus = 43 ∷ []
+sign_text minus = 45 ∷ []
 
-abbrev pub opText : Op → ℕ
-opText add = 43
-opText sub = 45
+abbrev pub op_text : Op → ℕ
+op_text add = 43
+op_text sub = 45
 
 unfoldable mutual
-  pub termText : Term → List ℕ
-  termText (number s ds h) = signText s ++ ds
-  termText (label name h) = name
-  termText (group g t r k) = 40 ∷ (spaces g ++ (termText t ++ (restText r ++ (spaces k ++ (41 ∷ [])))))
+  pub term_text : Term → List ℕ
+  term_text (number s ds h) = sign_text s ++ ds
+  term_text (label name h) = name
+  term_text (group g t r k) = 40 ∷ (spaces g ++ (term_text t ++ (rest_text r ++ (spaces k ++ (41 ∷ [])))))
 
-  pub restText : Rest → List ℕ
-  restText done = []
-  restText (then g op k t r) = spaces g ++ (opText op ∷ (spaces k ++ (termText t ++ restText r)))
+  pub rest_text : Rest → List ℕ
+  rest_text done = []
+  rest_text (then g op k t r) = spaces g ++ (op_text op ∷ (spaces k ++ (term_text t ++ rest_text r)))
 
-abbrev pub sumText : Sum → List ℕ
-sumText e = termText e.first ++ restText e.rest
+abbrev pub sum_text : Sum → List ℕ
+sum_text e = term_text e.first ++ rest_text e.rest
 
 -- the difference of two numbers
 unfoldable pub dif : ℕ → ℕ → ℤ
@@ -84,15 +84,15 @@ both op (some v) (some w) = checked (join op v w)
 
 -- left to right, where `look` gives the labels' values, and parentheses nest at most d deep
 unfoldable mutual
-  pub termValue : Term → (List ℕ → Option ℤ) → ℕ → Option ℤ
-  termValue (number s ds h) look d = checked (signed s (decimal ds))
-  termValue (label name h) look d = known (look name)
-  termValue (group g t r k) look zero = none
-  termValue (group g t r k) look (suc d) = restValue r look d (termValue t look d)
+  pub term_value : Term → (List ℕ → Option ℤ) → ℕ → Option ℤ
+  term_value (number s ds h) look d = checked (signed s (decimal ds))
+  term_value (label name h) look d = known (look name)
+  term_value (group g t r k) look zero = none
+  term_value (group g t r k) look (suc d) = rest_value r look d (term_value t look d)
 
-  pub restValue : Rest → (List ℕ → Option ℤ) → ℕ → Option ℤ → Option ℤ
-  restValue done look d v = v
-  restValue (then g op k t r) look d v = restValue r look d (both op v (termValue t look d))
+  pub rest_value : Rest → (List ℕ → Option ℤ) → ℕ → Option ℤ → Option ℤ
+  rest_value done look d v = v
+  rest_value (then g op k t r) look d v = rest_value r look d (both op v (term_value t look d))
 
-abbrev pub sumValue : Sum → (List ℕ → Option ℤ) → ℕ → Option ℤ
-sumValue e look d = restValue e.rest look d (termValue e.first look d)
+abbrev pub sum_value : Sum → (List ℕ → Option ℤ) → ℕ → Option ℤ
+sum_value e look d = rest_value e.rest look d (term_value e.first look d)

@@ -1,8 +1,8 @@
 // Numbers in decimal.
 ghost use Rattle.std.specs.Prelude.{◌≡◌, ◌-◌, ◌≤◌, drop};
 ghost use Rattle.labels.specs.Bytes.{head_of};
-ghost use Rattle.sums.specs.Reader.{digitsRead, numberRead};
-ghost use Rattle.sums.specs.Code.{sign_of, read_of, readTo, Past};
+ghost use Rattle.sums.specs.Reader.{digits_read, number_read};
+ghost use Rattle.sums.specs.Code.{sign_of, read_of, read_to, Past};
 
 use crate::Read;
 use crate::numbers::{Both, of_digits};
@@ -26,7 +26,7 @@ pub(crate) fn within(b: Both, n: usize) -> Read
 
 // The number that the digits at a place stand for.
 fn digits(s: &[u8], at: usize, negative: bool) -> Read
-    ensures { (digitsRead (sign_of negative) (drop at s.now) ≡ readTo s.now result) × Past s.now at result }
+    ensures { (digits_read (sign_of negative) (drop at s.now) ≡ read_to s.now result) × Past s.now at result }
 {
     if !digit(byte(s, at)) {
         return Read::Bad;
@@ -47,7 +47,7 @@ fn digits(s: &[u8], at: usize, negative: bool) -> Read
 }
 
 pub(crate) fn number(s: &[u8], at: usize) -> Read
-    ensures { (numberRead (drop at s.now) ≡ readTo s.now result) × Past s.now at result }
+    ensures { (number_read (drop at s.now) ≡ read_to s.now result) × Past s.now at result }
 {
     let c = byte(s, at);
     if c == b'+' {

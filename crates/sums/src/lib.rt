@@ -3,9 +3,9 @@ mod digits;
 mod numbers;
 
 ghost use Rattle.std.specs.Prelude.{◌≡◌, true, drop};
-ghost use Rattle.labels.specs.Bytes.{isLetter, head_of};
-ghost use Rattle.sums.specs.Reader.{nameRead, closedAfter, onto, sumRead, termRead};
-ghost use Rattle.sums.specs.Code.{lookIn, signAt, readTo, Past};
+ghost use Rattle.labels.specs.Bytes.{is_letter, head_of};
+ghost use Rattle.sums.specs.Reader.{name_read, closed_after, onto, sum_read, term_read};
+ghost use Rattle.sums.specs.Code.{look_in, sign_at, read_to, Past};
 
 use digits::number;
 use labels::table::{Found, find};
@@ -21,8 +21,8 @@ pub enum Read {
 
 // The label at a place.
 fn named(s: &[u8], text: &[u8], table: &[u64], base: u64, at: usize) -> Read
-    requires { isLetter (head_of (drop at s.now)) ≡ true }
-    ensures { (nameRead (lookIn text.now table.now base) (drop at s.now) ≡ readTo s.now result) × Past s.now at result }
+    requires { is_letter (head_of (drop at s.now)) ≡ true }
+    ensures { (name_read (look_in text.now table.now base) (drop at s.now) ≡ read_to s.now result) × Past s.now at result }
 {
     let Found::At(i, n) = find(text, table, s, at) else {
         return Read::Bad;
@@ -35,7 +35,7 @@ fn named(s: &[u8], text: &[u8], table: &[u64], base: u64, at: usize) -> Read
 
 // The sign at a place, or 0.
 fn sign(s: &[u8], at: usize) -> u8
-    ensures { result ≡ signAt (head_of (drop at s.now)) }
+    ensures { result ≡ sign_at (head_of (drop at s.now)) }
 {
     let c = byte(s, at);
     if c == b'+' {
@@ -50,7 +50,7 @@ fn sign(s: &[u8], at: usize) -> u8
 // A parenthesis after what was read.
 fn closed(s: &[u8], at: usize, inner: Read) -> Read
     requires { Past s.now at inner }
-    ensures { (onto closedAfter (readTo s.now inner) ≡ readTo s.now result) × Past s.now at result }
+    ensures { (onto closed_after (read_to s.now inner) ≡ read_to s.now result) × Past s.now at result }
 {
     let Read::Value(v, n) = inner else {
         return Read::Bad;
@@ -65,7 +65,7 @@ fn closed(s: &[u8], at: usize, inner: Read) -> Read
 // sum = term {("+" | "-") term}; what is read ends after the spaces that follow
 #[cycle(sum_term)]
 pub fn sum(s: &[u8], text: &[u8], table: &[u64], base: u64, at: usize, depth: u8) -> Read
-    ensures { (sumRead depth (lookIn text.now table.now base) (drop at s.now) ≡ readTo s.now result) × Past s.now at result }
+    ensures { (sum_read depth (look_in text.now table.now base) (drop at s.now) ≡ read_to s.now result) × Past s.now at result }
 {
     let first = term(s, text, table, base, at, depth);
     let Read::Value(v0, n0) = first else {
@@ -95,7 +95,7 @@ pub fn sum(s: &[u8], text: &[u8], table: &[u64], base: u64, at: usize, depth: u8
 // term = number | label | "(" sum ")"
 #[cycle(sum_term)]
 fn term(s: &[u8], text: &[u8], table: &[u64], base: u64, at: usize, depth: u8) -> Read
-    ensures { (termRead depth (lookIn text.now table.now base) (drop at s.now) ≡ readTo s.now result) × Past s.now at result }
+    ensures { (term_read depth (look_in text.now table.now base) (drop at s.now) ≡ read_to s.now result) × Past s.now at result }
 {
     let c = byte(s, at);
     if c == b'(' {

@@ -7,38 +7,38 @@ use native.Mathlib.Nat.{pow-suc}
 use native.Mathlib.Omega.{arith}
 use lib.Dec.{ltb}
 use borrow.Author.Tests.{ltb-true, ltb-false, le-leb}
-use Rattle.labels.specs.Bytes.{isDigit, every, is_number, decimal, decimalFrom}
-use Rattle.printing.specs.Print.{digitsBy}
+use Rattle.labels.specs.Bytes.{is_digit, every, is_number, decimal, decimal_from}
+use Rattle.printing.specs.Print.{digits_by}
 
-decimal-snoc : (v : ℕ) (ds : List ℕ) (d : ℕ) → decimalFrom v (ds ++ (d ∷ [])) ≡ decimalFrom v ds * 10 + (d - 48)
-unfolding decimalFrom
+decimal-snoc : (v : ℕ) (ds : List ℕ) (d : ℕ) → decimal_from v (ds ++ (d ∷ [])) ≡ decimal_from v ds * 10 + (d - 48)
+unfolding decimal_from
 decimal-snoc v [] d = refl
 decimal-snoc v (x ∷ ds) d = decimal-snoc (v * 10 + (x - 48)) ds d
 
-digit-is : (n : ℕ) → n < 10 → isDigit (48 + n) ≡ true
+digit-is : (n : ℕ) → n < 10 → is_digit (48 + n) ≡ true
 digit-is n h = simp (le-leb 48 (48 + n) (omega arith), le-leb (48 + n) 57 (omega arith))
 
-every-snoc : (ds : List ℕ) (d : ℕ) → every isDigit ds ≡ true → isDigit d ≡ true → every isDigit (ds ++ (d ∷ [])) ≡ true
+every-snoc : (ds : List ℕ) (d : ℕ) → every is_digit ds ≡ true → is_digit d ≡ true → every is_digit (ds ++ (d ∷ [])) ≡ true
 unfolding every
 every-snoc [] d h e = simp e
-every-snoc (x ∷ ds) d h e = go (isDigit x) (λ k. every-snoc ds d k e) h
+every-snoc (x ∷ ds) d h e = go (is_digit x) (λ k. every-snoc ds d k e) h
   where
-    go : (c : Bool) → (every isDigit ds ≡ true → every isDigit (ds ++ (d ∷ [])) ≡ true) → c && every isDigit ds ≡ true → c && every isDigit (ds ++ (d ∷ [])) ≡ true
+    go : (c : Bool) → (every is_digit ds ≡ true → every is_digit (ds ++ (d ∷ [])) ≡ true) → c && every is_digit ds ≡ true → c && every is_digit (ds ++ (d ∷ [])) ≡ true
     go true ih h = ih h
     go false ih h = h
 
 pub record Written (n : ℕ) (ds : List ℕ) : Type 0 where
   pub value : decimal ds ≡ n
-  pub digits : every isDigit ds ≡ true
+  pub digits : every is_digit ds ≡ true
   pub some : is_number ds ≡ true
 
-number_is : (ds : List ℕ) (d : ℕ) → every isDigit (ds ++ (d ∷ [])) ≡ true → is_number (ds ++ (d ∷ [])) ≡ true
+number_is : (ds : List ℕ) (d : ℕ) → every is_digit (ds ++ (d ∷ [])) ≡ true → is_number (ds ++ (d ∷ [])) ≡ true
 unfolding is_number
 number_is [] d h = h
 number_is (x ∷ ds) d h = h
 
 one-digit : (n : ℕ) → n < 10 → Written n ((48 + n) ∷ [])
-unfolding decimalFrom every is_number
+unfolding decimal_from every is_number
 one-digit n h = record { value = omega arith; digits = simp (digit-is n h); some = simp (digit-is n h) }
 
 more-digits : (n : ℕ) (ds : List ℕ) → Written (n / 10) ds → Written n (ds ++ ((48 + n % 10) ∷ []))
@@ -51,17 +51,17 @@ more-digits n ds w =
       some = number_is ds (48 + n % 10) e;
     }
 
-pub written : (f n : ℕ) → n < 10 ^ f → 0 < f → Written n (digitsBy f n)
-unfolding digitsBy
+pub written : (f n : ℕ) → n < 10 ^ f → 0 < f → Written n (digits_by f n)
+unfolding digits_by
 written zero n h p = absurd (omega arith)
 written (suc f) n h p = go (ltb n 10) refl (written f (n / 10))
   where
-    go : (c : Bool) → ltb n 10 ≡ c → (n / 10 < 10 ^ f → 0 < f → Written (n / 10) (digitsBy f (n / 10))) → Written n (cond c ((48 + n) ∷ []) (digitsBy f (n / 10) ++ ((48 + n % 10) ∷ [])))
+    go : (c : Bool) → ltb n 10 ≡ c → (n / 10 < 10 ^ f → 0 < f → Written (n / 10) (digits_by f (n / 10))) → Written n (cond c ((48 + n) ∷ []) (digits_by f (n / 10) ++ ((48 + n % 10) ∷ [])))
     go true e ih = one-digit n (ltb-true n 10 e)
     go false e ih =
         let l = ltb-false n 10 e in
         let b : n < 10 ^ f * 10 = rw pow-suc at h in
-        more-digits n (digitsBy f (n / 10)) (ih (omega arith) (positive f b l))
+        more-digits n (digits_by f (n / 10)) (ih (omega arith) (positive f b l))
       where
         positive : (f : ℕ) → n < 10 ^ f * 10 → 10 ≤ n → 0 < f
         positive zero b l = absurd (omega arith)

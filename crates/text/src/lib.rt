@@ -1,6 +1,6 @@
 // The host's calls on programs as text.
 ghost use Rattle.std.specs.Prelude.{◌≡◌};
-ghost use Rattle.printing.specs.Print.{printTold, printLeaves};
+ghost use Rattle.printing.specs.Print.{print_told, print_leaves};
 ghost use Rattle.programs.specs.Promise.{Assembled, leaves};
 
 use told::Told;
@@ -16,7 +16,7 @@ pub extern "C" fn zkir_assemble(text: &[u8], words: &mut [u8], labels: &mut [u64
 // The text of words into the front of `text`, a line each.
 #[unsafe(no_mangle)]
 pub extern "C" fn zkir_print(words: &[u8], text: &mut [u8]) -> Told
-    ensures { (result ≡ printTold words.now text.old) × (text.new ≡ printLeaves words.now text.old) }
+    ensures { (result ≡ print_told words.now text.old) × (text.new ≡ print_leaves words.now text.old) }
 {
     printing::print(words, text)
 }

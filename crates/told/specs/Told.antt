@@ -2,8 +2,8 @@
 use Rattle.std.specs.Prelude.{ℕ}
 use Rattle.told.specs.declared.Told.{Told}
 
-abbrev pub doneTold : ℕ → Told
-doneTold length = record { code = 0; particular = 0; length = length }
+abbrev pub done_told : ℕ → Told
+done_told length = record { code = 0; particular = 0; length = length }
 
-abbrev pub refusedTold : ℕ → ℕ → Told
-refusedTold code particular = record { code = code; particular = particular; length = 0 }
+abbrev pub refused_told : ℕ → ℕ → Told
+refused_told code particular = record { code = code; particular = particular; length = 0 }

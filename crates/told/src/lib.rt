@@ -1,6 +1,6 @@
 // What those calls of the host answer that tell more than a code.
 ghost use Rattle.std.specs.Prelude.{◌≡◌};
-ghost use Rattle.told.specs.Told.{doneTold, refusedTold};
+ghost use Rattle.told.specs.Told.{done_told, refused_told};
 
 // `length` is the bytes that were written.
 #[repr(C)]
@@ -12,7 +12,7 @@ pub struct Told {
 }
 
 pub fn done(length: u64) -> Told
-    ensures { result ≡ doneTold length }
+    ensures { result ≡ done_told length }
 {
     Told {
         code: 0,
@@ -22,7 +22,7 @@ pub fn done(length: u64) -> Told
 }
 
 pub fn refused(code: u64, particular: u64) -> Told
-    ensures { result ≡ refusedTold code particular }
+    ensures { result ≡ refused_told code particular }
 {
     Told {
         code,

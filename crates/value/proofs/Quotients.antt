@@ -3,7 +3,7 @@ use Rattle.std.proofs.Common.{◌≡◌, ℕ, zero, suc, ◌-◌, ◌/◌, ◌^�
 use native.Mathlib.Nat.{div-zero, mod-zero, div-lt_self}
 use lib.Signed.{quot_z, rem_z, mag, mag_rem}
 use mir.Facts.{of_z-to_z, sfits_to_z}
-use Rattle.value.specs.Division.{div_of, remOf}
+use Rattle.value.specs.Division.{div_of, rem_of}
 
 -- by 0
 quot-zero : (z : ℤ) → of_z w64 (quot_z z (pos 0)) ≡ 0
@@ -18,8 +18,8 @@ pub div-by-zero : (a b : ℕ) → b ≡ 0 → 0 ≡ div_of a b
 unfolding div_of
 div-by-zero a b e = rw e (sym (quot-zero (to_z w64 a)))
 
-pub rem-by-zero : (a b : ℕ) → a < 2 ^ 64 → b ≡ 0 → a ≡ remOf a b
-unfolding remOf
+pub rem-by-zero : (a b : ℕ) → a < 2 ^ 64 → b ≡ 0 → a ≡ rem_of a b
+unfolding rem_of
 rem-by-zero a b l e = rw e (sym (ap (of_z w64) (rem-zero (to_z w64 a)) ∙ of_z-to_z {w = w64} (record { fits = l })))
 
 -- the pair
@@ -27,8 +27,8 @@ pub div-pair : (a b : ℕ) → a ≡ 2 ^ 63 → b ≡ 2 ^ 64 - 1 → a ≡ div_o
 unfolding div_of
 div-pair a b p q = rw (p, q)
 
-pub rem-pair : (a b : ℕ) → a ≡ 2 ^ 63 → b ≡ 2 ^ 64 - 1 → 0 ≡ remOf a b
-unfolding remOf
+pub rem-pair : (a b : ℕ) → a ≡ 2 ^ 63 → b ≡ 2 ^ 64 - 1 → 0 ≡ rem_of a b
+unfolding rem_of
 rem-pair a b p q = rw (p, q)
 
 -- otherwise the quotient fits
@@ -76,6 +76,6 @@ module _ (a b : ℕ) (la : a < 2 ^ 64) (lb : b < 2 ^ 64) (x y : ℤ) (ex : x ≡
   unfolding div_of
   quotient other = result quot_z (quotient_fits other)
 
-  pub remainder : of_z w64 (to_z w64 (of_z w64 (rem_z (to_z w64 (of_z w64 x)) (to_z w64 (of_z w64 y))))) ≡ remOf a b
-  unfolding remOf
+  pub remainder : of_z w64 (to_z w64 (of_z w64 (rem_z (to_z w64 (of_z w64 x)) (to_z w64 (of_z w64 y))))) ≡ rem_of a b
+  unfolding rem_of
   remainder = result rem_z (record { sfits = lt_of_le_of_lt (mag_rem (to_z w64 a) (to_z w64 b)) reading-fits.sfits })

@@ -9,12 +9,12 @@ unfoldable pub div_of : ℕ → ℕ → ℕ
 div_of a b = of_z w64 (int_div (to_z w64 a) (to_z w64 b))
 
 -- the remainder that goes with it, of the dividend's sign
-unfoldable pub remOf : ℕ → ℕ → ℕ
-remOf a b = of_z w64 (int_rem (to_z w64 a) (to_z w64 b))
+unfoldable pub rem_of : ℕ → ℕ → ℕ
+rem_of a b = of_z w64 (int_rem (to_z w64 a) (to_z w64 b))
 
 -- read as they are
-abbrev pub divuOf : ℕ → ℕ → ℕ
-divuOf a b = a / b
+abbrev pub divu_of : ℕ → ℕ → ℕ
+divu_of a b = a / b
 
-abbrev pub remuOf : ℕ → ℕ → ℕ
-remuOf a b = a % b
+abbrev pub remu_of : ℕ → ℕ → ℕ
+remu_of a b = a % b

@@ -2,5 +2,5 @@
 use Rattle.std.specs.Prelude.{ℕ, ◌*◌, ◌/◌, ◌%◌, ◌^◌}
 
 -- bits 40 to 79 of the product
-abbrev pub mulhOf : ℕ → ℕ → ℕ
-mulhOf a b = a * b / 2 ^ 40 % 2 ^ 40
+abbrev pub mulh_of : ℕ → ℕ → ℕ
+mulh_of a b = a * b / 2 ^ 40 % 2 ^ 40

@@ -1,6 +1,6 @@
 // Division of all 64 bits. The caller refuses a divisor of 0 first; here it answers as the definitions do.
 ghost use Rattle.std.specs.Prelude.{◌≡◌, ◌-◌, ◌^◌, true, false, ◌≢◌};
-ghost use Rattle.value.specs.Division.{div_of, remOf, divuOf, remuOf};
+ghost use Rattle.value.specs.Division.{div_of, rem_of, divu_of, remu_of};
 
 use crate::signed::{pattern, reading};
 
@@ -26,7 +26,7 @@ pub fn div(a: u64, b: u64) -> u64
 }
 
 pub fn rem(a: u64, b: u64) -> u64
-    ensures { result ≡ remOf a b }
+    ensures { result ≡ rem_of a b }
 {
     if b == 0 {
         return a;
@@ -40,7 +40,7 @@ pub fn rem(a: u64, b: u64) -> u64
 }
 
 pub fn divu(a: u64, b: u64) -> u64
-    ensures { result ≡ divuOf a b }
+    ensures { result ≡ divu_of a b }
 {
     if b == 0 {
         return 0;
@@ -49,7 +49,7 @@ pub fn divu(a: u64, b: u64) -> u64
 }
 
 pub fn remu(a: u64, b: u64) -> u64
-    ensures { result ≡ remuOf a b }
+    ensures { result ≡ remu_of a b }
 {
     if b == 0 {
         return a;

@@ -1,6 +1,6 @@
 // Mulh: bits 40 to 79 of a product, worked out as on paper, in columns of 20 bits.
 ghost use Rattle.std.specs.Prelude.{◌≡◌};
-ghost use Rattle.value.specs.Product.{mulhOf};
+ghost use Rattle.value.specs.Product.{mulh_of};
 
 // 2^20: what a column keeps is below it, and a column counts 2^20 times the one before it.
 const COLUMN: u64 = 0x10_0000;
@@ -14,7 +14,7 @@ const COLUMN: u64 = 0x10_0000;
 //     column 2:  6*2 + 5*7 + 4*8        + 8   = 87, keeps 7, carries 8
 //     column 3:  6*1 + 5*2 + 4*7 + 3*8  + 8   = 76, keeps 6
 pub fn mulh(a: u64, b: u64) -> u64
-    ensures { result ≡ mulhOf a b }
+    ensures { result ≡ mulh_of a b }
 {
     let a0 = a % COLUMN;
     let a1 = a / COLUMN % COLUMN;

@@ -7,15 +7,15 @@ use mathlib.Core.Bool.{Bool, true, false, cond, ◌&&◌}
 use mathlib.Core.List.{[], ◌∷◌}
 use lib.Dec.{eqb}
 use borrow.Author.Tests.{eq-eqb, eqb-true, lt-ltb, ltb-true}
-use Rattle.encoding.specs.Fields.{field, extended, fitsIn}
+use Rattle.encoding.specs.Fields.{field, extended, fits_in}
 use Rattle.encoding.specs.Words.{bits, rWord, iWord, jWord}
 use Rattle.encoding.proofs.Extends.{cut-extended, extended-cut, extended_fits}
 use Rattle.encoding.proofs.Packed.{read_back, read_whole, made-back}
 use Rattle.refusal.specs.declared.Refusal.TheVariants.{UnusedBits, Malformed}
-use Rattle.opcode.specs.Opcodes.{opcodeNumber, form_of, all, opcodeIn}
-use Rattle.instruction.specs.Operands.{instructionOf, parts_of}
-use Rattle.forms.specs.Forms.{usedBits, immediate_of, immFits}
-use Rattle.words.specs.Words.{apartOf, foundApart, takeIn, decodedOf, decodeIn, partsFit, word_of, encodedIn, encodeIn}
+use Rattle.opcode.specs.Opcodes.{opcode_number, form_of, all, opcode_in}
+use Rattle.instruction.specs.Operands.{instruction_of, parts_of}
+use Rattle.forms.specs.Forms.{used_bits, immediate_of, imm_fits}
+use Rattle.words.specs.Words.{apart_of, found_apart, take_in, decoded_of, decode_in, parts_fit, word_of, encoded_in, encode_in}
 use Rattle.opcode.specs.declared.Opcode.{Opcode}
 use Rattle.opcode.specs.declared.Form.{Form}
 use Rattle.opcode.specs.declared.Form.TheVariants.{R, I, Shift, S, B, J, Alone}
@@ -26,7 +26,7 @@ use Rattle.instruction.specs.declared.Parts.{Parts}
 use Rattle.words.specs.declared.Taken.TheVariants as T
 use Rattle.words.specs.declared.Decoded.TheVariants as D
 use Rattle.words.specs.declared.Encoded.TheVariants as E
-use Rattle.opcode.proofs.Numberings.{Numbering, found, number-found, opcodeNumber-numbers}
+use Rattle.opcode.proofs.Numberings.{Numbering, found, number-found, opcode_number-numbers}
 use Rattle.instruction.proofs.Wholes.{kept, kept_op, joined-parts, parts-joined, joined-kept, parts-kept}
 
 -- ---- what fits
@@ -41,16 +41,16 @@ both : (t u : Bool) → t && u ≡ true → (t ≡ true) × (u ≡ true)
 both true u e = (refl, e)
 both false u e = let z : ◌≡◌ {A = ℕ} 0 1 = cc in absurd (omega arith)
 
-fits-holds : (p : Parts) → partsFit p ≡ true → Fits p (immFits (form_of p.op) p.imm)
-unfolding partsFit
+fits-holds : (p : Parts) → parts_fit p ≡ true → Fits p (imm_fits (form_of p.op) p.imm)
+unfolding parts_fit
 fits-holds p e =
     let x = both _ _ e in
     let y = both _ _ x.0 in
     let z = both _ _ y.0 in
     record { a = ltb-true _ _ z.0; b = ltb-true _ _ z.1; c = ltb-true _ _ y.1; imm = x.1 }
 
-holds_fits : (p : Parts) (f : Form) → form_of p.op ≡ f → Fits p (immFits f p.imm) → partsFit p ≡ true
-unfolding partsFit
+holds_fits : (p : Parts) (f : Form) → form_of p.op ≡ f → Fits p (imm_fits f p.imm) → parts_fit p ≡ true
+unfolding parts_fit
 holds_fits p f e h = rw (lt-ltb _ _ h.a, lt-ltb _ _ h.b, lt-ltb _ _ h.c, e) h.imm
 
 -- ---- the fields of a word that was made
@@ -81,14 +81,14 @@ module _ (n : ℕ) (p : Parts) (h : n < 128) where
   imm-2 : field 15 17 word-2 ≡ p.imm % 2 ^ 17
   imm-2 = read_back (bits 7 n ∷ bits 4 p.a ∷ bits 4 p.b ∷ []) (bits 17 p.imm) []
 
-  signed-2 : Fits p (fitsIn 16 p.imm) → Shows n word-2 32 (kept I (read I p.op word-2)) (kept I p)
+  signed-2 : Fits p (fits_in 16 p.imm) → Shows n word-2 32 (kept I (read I p.op word-2)) (kept I p)
   unfolding immediate_of kept
   signed-2 t =
       let i : extended 16 (field 15 17 word-2) ≡ p.imm = ap (extended 16) imm-2 ∙ cut-extended 16 (omega arith) p.imm t.imm in
       record { number = number-2; unused = omega arith; operands = rw (a_2 t.a, b_2 t.b, i) }
 
-  shows : (f : Form) → Fits p (immFits f p.imm) → Shows n (word_of f n p) (usedBits f) (kept f (read f p.op (word_of f n p))) (kept f p)
-  unfolding word_of usedBits immediate_of immFits kept
+  shows : (f : Form) → Fits p (imm_fits f p.imm) → Shows n (word_of f n p) (used_bits f) (kept f (read f p.op (word_of f n p))) (kept f p)
+  unfolding word_of used_bits immediate_of imm_fits kept
   shows R t =
       let a = read_whole (bits 7 n ∷ []) (bits 4 p.a) (bits 4 p.b ∷ bits 4 p.c ∷ bits 13 0 ∷ []) t.a in
       let b = read_whole (bits 7 n ∷ bits 4 p.a ∷ []) (bits 4 p.b) (bits 4 p.c ∷ bits 13 0 ∷ []) t.b in
@@ -128,7 +128,7 @@ made-1 w i h e =
     rw cut (made-back (7 ∷ 4 ∷ 21 ∷ []) w h)
 
 module _ (op : Opcode) (w : ℕ) (h : w < 2 ^ 32) where
-  signed-made : Fits (kept I (read I op w)) (fitsIn 16 (extended 16 (field 15 17 w)))
+  signed-made : Fits (kept I (read I op w)) (fits_in 16 (extended 16 (field 15 17 w)))
       × (iWord (field 0 7 w) (field 7 4 w) (field 11 4 w) (extended 16 (field 15 17 w)) ≡ w)
   unfolding kept immediate_of
   signed-made = (
@@ -136,9 +136,9 @@ module _ (op : Opcode) (w : ℕ) (h : w < 2 ^ 32) where
     made-2 w (extended 16 (field 15 17 w)) h (extended-cut 16 (omega arith) (field 15 17 w) (omega arith)),
   )
 
-  made : (f : Form) → w / 2 ^ usedBits f ≡ 0
-      → Fits (kept f (read f op w)) (immFits f (kept f (read f op w)).imm) × (word_of f (field 0 7 w) (kept f (read f op w)) ≡ w)
-  unfolding word_of usedBits immediate_of immFits kept
+  made : (f : Form) → w / 2 ^ used_bits f ≡ 0
+      → Fits (kept f (read f op w)) (imm_fits f (kept f (read f op w)).imm) × (word_of f (field 0 7 w) (kept f (read f op w)) ≡ w)
+  unfolding word_of used_bits immediate_of imm_fits kept
   made R z =
       let funct : 0 ≡ field 19 13 w = omega arith in (
         record { a = omega arith; b = omega arith; c = omega arith; imm = refl },
@@ -160,43 +160,43 @@ module _ (op : Opcode) (w : ℕ) (h : w < 2 ^ 32) where
 -- ---- words and instructions
 
 module _ (num : Opcode → ℕ) where
-  word-of : (p : Parts) (w : ℕ) → encodedIn num p ≡ E.Word w → (partsFit p ≡ true) × (word_of (form_of p.op) (num p.op) p ≡ w)
-  unfolding encodedIn
-  word-of p w e = by (partsFit p) refl e
+  word-of : (p : Parts) (w : ℕ) → encoded_in num p ≡ E.Word w → (parts_fit p ≡ true) × (word_of (form_of p.op) (num p.op) p ≡ w)
+  unfolding encoded_in
+  word-of p w e = by (parts_fit p) refl e
     where
-      by : (t : Bool) → partsFit p ≡ t → cond t (E.Word (word_of (form_of p.op) (num p.op) p)) (E.Refused Malformed) ≡ E.Word w
-          → (partsFit p ≡ true) × (word_of (form_of p.op) (num p.op) p ≡ w)
+      by : (t : Bool) → parts_fit p ≡ t → cond t (E.Word (word_of (form_of p.op) (num p.op) p)) (E.Refused Malformed) ≡ E.Word w
+          → (parts_fit p ≡ true) × (word_of (form_of p.op) (num p.op) p ≡ w)
       by true q e = (q, cc)
       by false q e = let z : ◌≡◌ {A = ℕ} 0 1 = cc in absurd (omega arith)
 
-  pub decode-encode : Numbering num → (i : Instruction) (w : ℕ) → encodeIn num i ≡ E.Word w → decodeIn num w ≡ D.Instruction i
-  unfolding takeIn foundApart apartOf decodedOf
+  pub decode-encode : Numbering num → (i : Instruction) (w : ℕ) → encode_in num i ≡ E.Word w → decode_in num w ≡ D.Instruction i
+  unfolding take_in found_apart apart_of decoded_of
   decode-encode N i w e =
       let p = parts_of i in
       let op = p.op in
       let f = form_of op in
       let x = word-of p w e in
-      let s : Shows (num op) w (usedBits f) (kept f (read f op w)) (kept f p) =
-      subst (λ (v : ℕ). Shows (num op) v (usedBits f) (kept f (read f op v)) (kept f p)) x.1 (shows (num op) p (N.below op) f (fits-holds p x.0)) in
-      rw (s.number, found num N op, eq-eqb (w / 2 ^ usedBits f) 0 s.unused)
+      let s : Shows (num op) w (used_bits f) (kept f (read f op w)) (kept f p) =
+      subst (λ (v : ℕ). Shows (num op) v (used_bits f) (kept f (read f op v)) (kept f p)) x.1 (shows (num op) p (N.below op) f (fits-holds p x.0)) in
+      rw (s.number, found num N op, eq-eqb (w / 2 ^ used_bits f) 0 s.unused)
       (ap D.Instruction
-      (sym (joined-kept (read f op w)) ∙ ap instructionOf (s.operands ∙ sym (parts-kept i)) ∙ joined-parts i))
+      (sym (joined-kept (read f op w)) ∙ ap instruction_of (s.operands ∙ sym (parts-kept i)) ∙ joined-parts i))
 
   -- what is known of a word that is read
   record Read (w : ℕ) (i : Instruction) : Type 0 where
     op : Opcode
     number : num op ≡ field 0 7 w
     parts : parts_of i ≡ kept (form_of op) (read (form_of op) op w)
-    unused : w / 2 ^ usedBits (form_of op) ≡ 0
+    unused : w / 2 ^ used_bits (form_of op) ≡ 0
 
-  reads : (w : ℕ) (i : Instruction) → decodeIn num w ≡ D.Instruction i → Read w i
-  unfolding takeIn foundApart apartOf decodedOf
-  reads w i e = by (opcodeIn num (field 0 7 w)) refl e
+  reads : (w : ℕ) (i : Instruction) → decode_in num w ≡ D.Instruction i → Read w i
+  unfolding take_in found_apart apart_of decoded_of
+  reads w i e = by (opcode_in num (field 0 7 w)) refl e
     where
-      apart : (op : Opcode) → opcodeIn num (field 0 7 w) ≡ Op op → (t : Bool) → eqb (w / 2 ^ usedBits (form_of op)) 0 ≡ t
-          → decodedOf (cond t (T.Apart (read (form_of op) op w)) (T.Refused (UnusedBits w))) ≡ D.Instruction i → Read w i
+      apart : (op : Opcode) → opcode_in num (field 0 7 w) ≡ Op op → (t : Bool) → eqb (w / 2 ^ used_bits (form_of op)) 0 ≡ t
+          → decoded_of (cond t (T.Apart (read (form_of op) op w)) (T.Refused (UnusedBits w))) ≡ D.Instruction i → Read w i
       apart op o true q e =
-          let j : i ≡ instructionOf (read (form_of op) op w) = cc in
+          let j : i ≡ instruction_of (read (form_of op) op w) = cc in
           record {
             op = op;
             number = number-found num all (field 0 7 w) op o;
@@ -205,33 +205,33 @@ module _ (num : Opcode → ℕ) where
           }
       apart op o false q e = let z : ◌≡◌ {A = ℕ} 0 1 = cc in absurd (omega arith)
 
-      by : (o : Found) → opcodeIn num (field 0 7 w) ≡ o → decodedOf (foundApart o w) ≡ D.Instruction i → Read w i
-      by (Op op) o e = apart op o (eqb (w / 2 ^ usedBits (form_of op)) 0) refl e
+      by : (o : Found) → opcode_in num (field 0 7 w) ≡ o → decoded_of (found_apart o w) ≡ D.Instruction i → Read w i
+      by (Op op) o e = apart op o (eqb (w / 2 ^ used_bits (form_of op)) 0) refl e
       by Nothing o e = let z : ◌≡◌ {A = ℕ} 0 1 = cc in absurd (omega arith)
 
-  word_made : (p : Parts) (op : Opcode) (n w : ℕ) → p.op ≡ op → num op ≡ n → Fits p (immFits (form_of op) p.imm)
-      → word_of (form_of op) n p ≡ w → encodedIn num p ≡ E.Word w
-  unfolding encodedIn
+  word_made : (p : Parts) (op : Opcode) (n w : ℕ) → p.op ≡ op → num op ≡ n → Fits p (imm_fits (form_of op) p.imm)
+      → word_of (form_of op) n p ≡ w → encoded_in num p ≡ E.Word w
+  unfolding encoded_in
   word_made p op n w o k t m =
       rw (holds_fits p (form_of op) (ap form_of o) t)
       (ap E.Word (ap₂ (λ (f : Form) (j : ℕ). word_of f j p) (ap form_of o) (ap num o ∙ k) ∙ m))
 
   -- in this direction the numbers may be any
-  pub encode-decode : (w : ℕ) (i : Instruction) → w < 2 ^ 32 → decodeIn num w ≡ D.Instruction i → encodeIn num i ≡ E.Word w
+  pub encode-decode : (w : ℕ) (i : Instruction) → w < 2 ^ 32 → decode_in num w ≡ D.Instruction i → encode_in num i ≡ E.Word w
   encode-decode w i h e =
       let r = reads w i e in
       let op = r.op in
       let f = form_of op in
       let m = made op w h f r.unused in
-      ap (encodedIn num) r.parts
+      ap (encoded_in num) r.parts
       ∙ word_made (kept f (read f op w)) op (field 0 7 w) w (kept_op f (read f op w)) r.number m.0 m.1
 
 pub record OneWord (num : Opcode → ℕ) : Type 0 where
-  pub read_again : (i : Instruction) (w : ℕ) → encodeIn num i ≡ E.Word w → decodeIn num w ≡ D.Instruction i
-  pub made_again : (w : ℕ) (i : Instruction) → w < 2 ^ 32 → decodeIn num w ≡ D.Instruction i → encodeIn num i ≡ E.Word w
-  pub one-instruction : (i j : Instruction) (w : ℕ) → encodeIn num i ≡ E.Word w → encodeIn num j ≡ E.Word w → i ≡ j
+  pub read_again : (i : Instruction) (w : ℕ) → encode_in num i ≡ E.Word w → decode_in num w ≡ D.Instruction i
+  pub made_again : (w : ℕ) (i : Instruction) → w < 2 ^ 32 → decode_in num w ≡ D.Instruction i → encode_in num i ≡ E.Word w
+  pub one-instruction : (i j : Instruction) (w : ℕ) → encode_in num i ≡ E.Word w → encode_in num j ≡ E.Word w → i ≡ j
   pub one_word : (v w : ℕ) (i : Instruction) → v < 2 ^ 32 → w < 2 ^ 32
-      → decodeIn num v ≡ D.Instruction i → decodeIn num w ≡ D.Instruction i → v ≡ w
+      → decode_in num v ≡ D.Instruction i → decode_in num w ≡ D.Instruction i → v ≡ w
 
 pub numbered : (num : Opcode → ℕ) → Numbering num → OneWord num
 numbered num N =
@@ -249,5 +249,5 @@ numbered num N =
     same_word e = cc
 
 -- in particular in document 01
-pub document : OneWord opcodeNumber
-document = numbered opcodeNumber opcodeNumber-numbers
+pub document : OneWord opcode_number
+document = numbered opcode_number opcode_number-numbers

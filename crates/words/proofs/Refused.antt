@@ -4,15 +4,15 @@ use mathlib.Core.Path.{◌≡◌}
 use mathlib.Core.Bool.{Bool, true, false, cond}
 use native.Mathlib.Omega.{arith}
 use lib.Dec.{eqb}
-use Rattle.refusal.specs.Stops.{number_of, refusalOf}
+use Rattle.refusal.specs.Stops.{number_of, refusal_of}
 use Rattle.refusal.specs.declared.Refusal.{Refusal}
 use Rattle.opcode.specs.Opcodes.{form_of}
 use Rattle.opcode.specs.declared.Opcode.{Opcode}
 use Rattle.opcode.specs.declared.Found.{Found}
 use Rattle.opcode.specs.declared.Found.TheVariants.{Op, Nothing}
-use Rattle.forms.specs.Forms.{usedBits}
+use Rattle.forms.specs.Forms.{used_bits}
 use Rattle.instruction.specs.declared.Parts.{Parts}
-use Rattle.words.specs.Words.{apartOf, foundApart, takeIn, decodedOf, decodeIn}
+use Rattle.words.specs.Words.{apart_of, found_apart, take_in, decoded_of, decode_in}
 use Rattle.words.specs.declared.Taken.{Taken}
 use Rattle.words.specs.declared.Taken.TheVariants as T
 use Rattle.words.specs.declared.Decoded.TheVariants as D
@@ -21,22 +21,22 @@ data FourOrFive : Taken → Type 0 where
   apart : {p : Parts} → FourOrFive (T.Apart p)
   refused : {r : Refusal} → 4 ≤ number_of r → number_of r ≤ 5 → FourOrFive (T.Refused r)
 
-by_bits : (clear : Bool) (p : Parts) (w : ℕ) → FourOrFive (cond clear (T.Apart p) (T.Refused (refusalOf 5 w)))
+by_bits : (clear : Bool) (p : Parts) (w : ℕ) → FourOrFive (cond clear (T.Apart p) (T.Refused (refusal_of 5 w)))
 by_bits true p w = apart
-by_bits false p w = refused {r = refusalOf 5 w} (omega arith) (omega arith)
+by_bits false p w = refused {r = refusal_of 5 w} (omega arith) (omega arith)
 
-by-opcode : (f : Found) (w : ℕ) → FourOrFive (foundApart f w)
-unfolding foundApart apartOf
-by-opcode (Op op) w = by_bits (eqb (w / 2 ^ usedBits (form_of op)) 0) _ w
-by-opcode Nothing w = refused {r = refusalOf 4 w} (omega arith) (omega arith)
+by-opcode : (f : Found) (w : ℕ) → FourOrFive (found_apart f w)
+unfolding found_apart apart_of
+by-opcode (Op op) w = by_bits (eqb (w / 2 ^ used_bits (form_of op)) 0) _ w
+by-opcode Nothing w = refused {r = refusal_of 4 w} (omega arith) (omega arith)
 
-by_number : (t : Taken) → FourOrFive t → (r : Refusal) → decodedOf t ≡ D.Refused r → (4 ≤ number_of r) × (number_of r ≤ 5)
-unfolding decodedOf
+by_number : (t : Taken) → FourOrFive t → (r : Refusal) → decoded_of t ≡ D.Refused r → (4 ≤ number_of r) × (number_of r ≤ 5)
+unfolding decoded_of
 by_number (T.Apart p) apart r e = let z : ◌≡◌ {A = ℕ} 0 1 = cc in absurd (omega arith)
 by_number (T.Refused q) (refused low high) r e =
     let same : r ≡ q = cc in
     rw same (low, high)
 
-pub decoded-refused : (num : Opcode → ℕ) (w : ℕ) (r : Refusal) → decodeIn num w ≡ D.Refused r → (4 ≤ number_of r) × (number_of r ≤ 5)
-unfolding takeIn
-decoded-refused num w = by_number (takeIn num w) (by-opcode _ w)
+pub decoded-refused : (num : Opcode → ℕ) (w : ℕ) (r : Refusal) → decode_in num w ≡ D.Refused r → (4 ≤ number_of r) × (number_of r ≤ 5)
+unfolding take_in
+decoded-refused num w = by_number (take_in num w) (by-opcode _ w)

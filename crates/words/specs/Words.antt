@@ -2,10 +2,10 @@
 use Rattle.std.specs.Prelude.{ℕ, ◌/◌, ◌^◌, Bool, cond, ◌&&◌, ltb, eqb}
 use Rattle.encoding.specs.Fields.{field}
 use Rattle.encoding.specs.Words.{rWord, iWord, sWord, jWord}
-use Rattle.refusal.specs.Stops.{refusalOf}
-use Rattle.opcode.specs.Opcodes.{form_of, opcodeIn}
-use Rattle.forms.specs.Forms.{usedBits, immediate_of, immFits}
-use Rattle.instruction.specs.Operands.{instructionOf, parts_of}
+use Rattle.refusal.specs.Stops.{refusal_of}
+use Rattle.opcode.specs.Opcodes.{form_of, opcode_in}
+use Rattle.forms.specs.Forms.{used_bits, immediate_of, imm_fits}
+use Rattle.instruction.specs.Operands.{instruction_of, parts_of}
 use Rattle.opcode.specs.declared.Opcode.{Opcode}
 use Rattle.opcode.specs.declared.Form.{Form}
 use Rattle.opcode.specs.declared.Form.TheVariants.{R, I, Shift, S, B, J, Alone}
@@ -20,33 +20,33 @@ use Rattle.words.specs.declared.Decoded.TheVariants as D
 use Rattle.words.specs.declared.Encoded.{Encoded}
 use Rattle.words.specs.declared.Encoded.TheVariants as E
 
-unfoldable pub apartOf : Opcode → ℕ → Taken
-apartOf op w =
-    cond (eqb (w / 2 ^ usedBits (form_of op)) 0)
+unfoldable pub apart_of : Opcode → ℕ → Taken
+apart_of op w =
+    cond (eqb (w / 2 ^ used_bits (form_of op)) 0)
     (T.Apart (record { op = op; a = field 7 4 w; b = field 11 4 w; c = field 15 4 w; imm = immediate_of (form_of op) w }))
-    (T.Refused (refusalOf 5 w))
+    (T.Refused (refusal_of 5 w))
 
 -- "opcode 0 or over 50" is refused (4), before 5 is looked at
-unfoldable pub foundApart : Found → ℕ → Taken
-foundApart (Op op) w = apartOf op w
-foundApart Nothing w = T.Refused (refusalOf 4 w)
+unfoldable pub found_apart : Found → ℕ → Taken
+found_apart (Op op) w = apart_of op w
+found_apart Nothing w = T.Refused (refusal_of 4 w)
 
-unfoldable pub takeIn : (Opcode → ℕ) → ℕ → Taken
-takeIn num w = foundApart (opcodeIn num (field 0 7 w)) w
+unfoldable pub take_in : (Opcode → ℕ) → ℕ → Taken
+take_in num w = found_apart (opcode_in num (field 0 7 w)) w
 
-unfoldable pub decodedOf : Taken → Decoded
-decodedOf (T.Apart p) = D.Instruction (instructionOf p)
-decodedOf (T.Refused r) = D.Refused r
+unfoldable pub decoded_of : Taken → Decoded
+decoded_of (T.Apart p) = D.Instruction (instruction_of p)
+decoded_of (T.Refused r) = D.Refused r
 
-abbrev pub decodeIn : (Opcode → ℕ) → ℕ → Decoded
-decodeIn num w = decodedOf (takeIn num w)
+abbrev pub decode_in : (Opcode → ℕ) → ℕ → Decoded
+decode_in num w = decoded_of (take_in num w)
 
 -- "the encoder of an instruction refuses (9) what doesn't fit": a register over 15, an immediate or a shift amount
-unfoldable pub partsFit : Parts → Bool
-partsFit p = ltb p.a 16 && ltb p.b 16 && ltb p.c 16 && immFits (form_of p.op) p.imm
+unfoldable pub parts_fit : Parts → Bool
+parts_fit p = ltb p.a 16 && ltb p.b 16 && ltb p.c 16 && imm_fits (form_of p.op) p.imm
 
 abbrev pub fits_of : Instruction → Bool
-fits_of i = partsFit (parts_of i)
+fits_of i = parts_fit (parts_of i)
 
 unfoldable pub word_of : Form → ℕ → Parts → ℕ
 word_of R n p = rWord n p.a p.b p.c 0
@@ -57,8 +57,8 @@ word_of B n p = sWord n p.a p.b p.imm
 word_of J n p = jWord n p.a p.imm
 word_of Alone n p = rWord n 0 0 0 0
 
-unfoldable pub encodedIn : (Opcode → ℕ) → Parts → Encoded
-encodedIn num p = cond (partsFit p) (E.Word (word_of (form_of p.op) (num p.op) p)) (E.Refused (refusalOf 9 0))
+unfoldable pub encoded_in : (Opcode → ℕ) → Parts → Encoded
+encoded_in num p = cond (parts_fit p) (E.Word (word_of (form_of p.op) (num p.op) p)) (E.Refused (refusal_of 9 0))
 
-abbrev pub encodeIn : (Opcode → ℕ) → Instruction → Encoded
-encodeIn num i = encodedIn num (parts_of i)
+abbrev pub encode_in : (Opcode → ℕ) → Instruction → Encoded
+encode_in num i = encoded_in num (parts_of i)

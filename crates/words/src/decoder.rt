@@ -1,8 +1,8 @@
 // Words to instructions.
 ghost use Rattle.std.specs.Prelude.{◌≡◌, ◌%◌};
 ghost use Rattle.encoding.specs.Fields.{field};
-ghost use Rattle.opcode.specs.Opcodes.{opcodeNumber};
-ghost use Rattle.words.specs.Words.{apartOf, takeIn, decodeIn};
+ghost use Rattle.opcode.specs.Opcodes.{opcode_number};
+ghost use Rattle.words.specs.Words.{apart_of, take_in, decode_in};
 
 use super::{Decoded, Taken};
 use encoding::fields;
@@ -19,7 +19,7 @@ fn register(x: u32) -> u8
 
 // All four fields are read, whatever the form: no test is taken for those that the instruction lacks.
 fn apart(op: Opcode, word: u32) -> Taken
-    ensures { result ≡ apartOf op word }
+    ensures { result ≡ apart_of op word }
 {
     let f = form_of(op);
     if unused(f, word) != 0 {
@@ -43,7 +43,7 @@ fn low(word: u32) -> u8
 // A word taken apart without building the instruction, in at most three branches: a range test of the number, a jump by form, and
 // at R, Shift and Alone a test of the unused bits.
 fn take(word: u32) -> Taken
-    ensures { result ≡ takeIn opcodeNumber word }
+    ensures { result ≡ take_in opcode_number word }
 {
     match opcode_of(low(word)) {
         Found::Op(op) => apart(op, word),
@@ -53,7 +53,7 @@ fn take(word: u32) -> Taken
 
 // One jump more, by opcode, to build the instruction.
 pub fn decode(word: u32) -> Decoded
-    ensures { result ≡ decodeIn opcodeNumber word }
+    ensures { result ≡ decode_in opcode_number word }
 {
     match take(word) {
         Taken::Apart(p) => Decoded::Instruction(instruction_of(p)),

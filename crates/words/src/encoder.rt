@@ -1,7 +1,7 @@
 // Instructions to words.
 ghost use Rattle.std.specs.Prelude.{◌≡◌, ◌%◌, ◌^◌};
-ghost use Rattle.opcode.specs.Opcodes.{opcodeNumber};
-ghost use Rattle.words.specs.Words.{partsFit, word_of, encodedIn, encodeIn};
+ghost use Rattle.opcode.specs.Opcodes.{opcode_number};
+ghost use Rattle.words.specs.Words.{parts_fit, word_of, encoded_in, encode_in};
 
 use super::Encoded;
 use encoding::{encode_btype, encode_itype, encode_jtype, encode_rtype, encode_stype};
@@ -11,7 +11,7 @@ use opcode::{Form, opcode_number};
 use refusal::Refusal;
 
 fn parts_fit(p: Parts) -> bool
-    ensures { result ≡ partsFit p }
+    ensures { result ≡ parts_fit p }
 {
     let op = p.op;
     (p.a < 16) & (p.b < 16) & (p.c < 16) & imm_fits(form_of(op), p.imm)
@@ -53,7 +53,7 @@ fn word_of(f: Form, n: u32, p: Parts) -> u32
 
 // The word of operands, with no instruction built.
 pub fn encode_parts(p: Parts) -> Encoded
-    ensures { result ≡ encodedIn opcodeNumber p }
+    ensures { result ≡ encoded_in opcode_number p }
 {
     let op = p.op;
     if parts_fit(p) {
@@ -64,7 +64,7 @@ pub fn encode_parts(p: Parts) -> Encoded
 }
 
 pub fn encode(i: Instruction) -> Encoded
-    ensures { result ≡ encodeIn opcodeNumber i }
+    ensures { result ≡ encode_in opcode_number i }
 {
     encode_parts(parts_of(i))
 }

@@ -9,8 +9,8 @@ use Rattle.walks.proofs.Tests.{holds, fails}
 use Rattle.walks.proofs.Again.{LentAgain, lends_again, comes_back}
 use denote.Struct.Laws as LL
 use Rattle.state.specs.declared.State.{State}
-use Rattle.execute.specs.World.{worldOf}
-use Rattle.execute.specs.Rules.{rulesOf}
+use Rattle.execute.specs.World.{world_of}
+use Rattle.execute.specs.Rules.{rules_of}
 use Rattle.execute.specs.declared.Choices.{Choices}
 use Rattle.run.specs.Run.{Answer, run as runs}
 use Rattle.run.specs.declared.Ran.{Ran}
@@ -21,7 +21,7 @@ use Rattle.checked.specs.declared.Way.{Way}
 use Rattle.checked.specs.declared.Turned.{Turned}
 use Rattle.run.proofs.Loops.{ahead, ended}
 use Rattle.checked.proofs.Turning.{turned, falls}
-use Rattle.checks.proofs.Noting.{valsP, Note, to-note, goes-note}
+use Rattle.checks.proofs.Noting.{vals_p, Note, to-note, goes-note}
 use Rattle.execute.specs.contracts.Choices as O
 use Rattle.execute.proofs.Choices.TheLaws as O'
 use Rattle.state.specs.contracts.State as T
@@ -55,31 +55,31 @@ use Rattle.checked.proofs.run.Code as code
 abbrev stayed : Stays (self.ended).signature.params (self.ended).kept
 stayed = (stay_none (λ _. O.the_row) yes, (stay_none (λ _. T.the_row) yes, (stay_none (λ _. u64) yes, (stay_slice (0 ∷ []) tt (plain (λ _. u8)), (stay_slice (1 ∷ []) tt (plain (λ _. K.the_row)), (stay_none (λ _. usize) yes, tt))))))
 
-abbrev valsC : Choices → List Val
-valsC = LL.vals O.the_type O'.the_laws
+abbrev vals_c : Choices → List Val
+vals_c = LL.vals O.the_type O'.the_laws
 
-abbrev valsS : State → List Val
-valsS = LL.vals T.the_type T'.the_laws
+abbrev vals_s : State → List Val
+vals_s = LL.vals T.the_type T'.the_laws
 
-abbrev valsW : Way → List Val
-valsW = LL.vals S.the_type S'.the_laws
+abbrev vals_w : Way → List Val
+vals_w = LL.vals S.the_type S'.the_laws
 
 -- what a run that no longer goes on answers
-abbrev ranOf : Way → Ran
-ranOf r = record { stop = r.going.stop; steps = r.going.steps; count = r.count; state = r.going.state }
+abbrev ran_of : Way → Ran
+ran_of r = record { stop = r.going.stop; steps = r.going.steps; count = r.count; state = r.going.state }
 
-ran-is : (r : Way) → Is S.the_row r (valsW r) → Is N.the_row (ranOf r) (LL.vals N.the_type N'.the_laws (ranOf r))
+ran-is : (r : Way) → Is S.the_row r (vals_w r) → Is N.the_row (ran_of r) (LL.vals N.the_type N'.the_laws (ran_of r))
 ran-is r is =
     let fields = LL.owed S.the_type S'.the_laws r _ is in
     let going = (LL.owed G.the_type G'.the_laws r.going _ fields.0).1.1.1 in
-    LL.owes N.the_type N'.the_laws (ranOf r) (going.0, (going.1.0, (fields.1.0, (going.1.1.0, tt))))
+    LL.owes N.the_type N'.the_laws (ran_of r) (going.0, (going.1.0, (fields.1.0, (going.1.1.0, tt))))
 
 -- the types of the locals that hold a slice, and of what points to its elements
-abbrev memRef : Lifetime → Ty
-memRef ℓ = ty_ref ℓ mut (ty_int w8)
+abbrev mem_ref : Lifetime → Ty
+mem_ref ℓ = ty_ref ℓ mut (ty_int w8)
 
-abbrev listRef : Lifetime → Ty
-listRef ℓ = ty_ref ℓ mut (pointee (K.the_row).written)
+abbrev list_ref : Lifetime → Ty
+list_ref ℓ = ty_ref ℓ mut (pointee (K.the_row).written)
 
 module _ {M : Type 1} {𝓤 : Ura M} (𝓛 : Logic 𝓤) (mem : Memory → SProp 𝓤) (run : Routine → Fun 𝓤) where
   -- the contracts that the proof cites beside `Note`
@@ -97,7 +97,7 @@ record Turn (m₀ : List ℕ) (l₀ : List Pending) (goal : Answer) : Type 0 whe
   comes : Ahead at mem list goal
   same_mem : length mem ≡ length m₀
   same-list : length list ≡ length l₀
-  is : Is S.the_row at (valsW at)
+  is : Is S.the_row at (vals_w at)
 
 abbrev size : {m₀ : List ℕ} {l₀ : List Pending} {goal : Answer} → Turn m₀ l₀ goal → ℕ
 size z = ahead z.at.going
@@ -108,12 +108,12 @@ less z z' = size z < size z'
 less_wf : (m₀ : List ℕ) (l₀ : List Pending) (goal : Answer) → WellFounded {α = Turn m₀ l₀ goal} less
 less_wf m₀ l₀ goal = InvImage·wf size Nat·lt-wfRel.wf
 
-module _ {M : Type 1} {𝓤 : Ura M} (𝓛 : Logic 𝓤) (at_mem : Memory → SProp 𝓤) (run : Routine → Fun 𝓤) (κ κ' : Lft) (q q' : Share) (c : Choices) (c-is : Is O.the_row c (valsC c)) (h : State) (h-is : Is T.the_row h (valsS h)) (fuel : ℕ) (fuel-fits : fuel < 2 ^ 64)
+module _ {M : Type 1} {𝓤 : Ura M} (𝓛 : Logic 𝓤) (at_mem : Memory → SProp 𝓤) (run : Routine → Fun 𝓤) (κ κ' : Lft) (q q' : Share) (c : Choices) (c-is : Is O.the_row c (vals_c c)) (h : State) (h-is : Is T.the_row h (vals_s h)) (fuel : ℕ) (fuel-fits : fuel < 2 ^ 64)
     (b o : ℕ) (γ : GName) (ys : List ℕ) (b' o' : ℕ) (γ' : GName) (ks : List Pending) (n : ℕ) (n-fits : n < 2 ^ 64) where
   open 𝓛 use {H, A}
 
   abbrev goal : Answer
-  goal = runs c.mode (rulesOf c) fuel (worldOf h ys) (listed n ks)
+  goal = runs c.mode (rules_of c) fuel (world_of h ys) (listed n ks)
 
   abbrev Here : Type 0
   Here = Turn ys ks goal
@@ -137,7 +137,7 @@ module _ {M : Type 1} {𝓤 : Ura M} (𝓛 : Logic 𝓤) (at_mem : Memory → SP
   a = (c, (h, (fuel, (xm γ ys, (xl γ' ks, (n, tt))))))
 
   abbrev vals : List Val × (List Val × (List Val × (List Val × (List Val × (List Val × Unit {0})))))
-  vals = (valsC c, (valsS h, (vint w64 fuel ∷ [], (sm (length ys) ∷ [], (sl (length ks) ∷ [], (vint w64 n ∷ [], tt))))))
+  vals = (vals_c c, (vals_s h, (vint w64 fuel ∷ [], (sm (length ys) ∷ [], (sl (length ks) ∷ [], (vint w64 n ∷ [], tt))))))
 
   abbrev Post : Val → SProp 𝓤
   Post = (walk_of 𝓛 self.ended stayed (self.clauses 𝓛 at_mem run)).post (((κ, (κ', tt)), (q, (q', tt)), tt, a, vals), tt)
@@ -146,24 +146,24 @@ module _ {M : Type 1} {𝓤 : Ura M} (𝓛 : Logic 𝓤) (at_mem : Memory → SP
   abbrev Both : Here → List (Item 𝓤) → List (Item 𝓤)
   Both z Γ = ‵ ((MutSlice (named 0) κ u8).own_val (xm γ z.mem) (sm (length z.mem) ∷ [])) ∷ ‵ (flft κ q) ∷ ‵ ((MutSlice (named 1) κ' K.the_row).own_val (xl γ' z.list) (sl (length z.list) ∷ [])) ∷ ‵ (flft κ' q') ∷ Γ
 
-  exits : (z : Here) → z.at.going.on ≡ false → ent 𝓤 (⋆ 𝓛 (Both z [])) (Post (LL.val N.the_type N'.the_laws (ranOf z.at)))
+  exits : (z : Here) → z.at.going.on ≡ false → ent 𝓤 (⋆ 𝓛 (Both z [])) (Post (LL.val N.the_type N'.the_laws (ran_of z.at)))
   exits z g =
       qed 𝓛 (Both z []) ∵
-      suffices ! _ (ends_at 𝓛 self.ended stayed (self.clauses 𝓛 at_mem run) (((κ, (κ', tt)), (q, (q', tt)), tt, a, vals), tt) (LL.val N.the_type N'.the_laws (ranOf z.at)) (ranOf z.at) (tt, (tt, (tt, (z.mem, (z.list, (tt, tt)))))) (tt, (tt, (tt, (z.same_mem, (z.same-list, (tt, tt))))))) $
+      suffices ! _ (ends_at 𝓛 self.ended stayed (self.clauses 𝓛 at_mem run) (((κ, (κ', tt)), (q, (q', tt)), tt, a, vals), tt) (LL.val N.the_type N'.the_laws (ran_of z.at)) (ran_of z.at) (tt, (tt, (tt, (z.mem, (z.list, (tt, tt)))))) (tt, (tt, (tt, (z.same_mem, (z.same-list, (tt, tt))))))) $
       says ! (ended z.at.going z.mem (listed z.at.count z.list) g ∙ z.comes.1) $
       rewrite ! 0 (λ (i : ℕ). ‵ ((MutSlice (named 0) κ u8).own_val (xm γ z.mem) (sm i ∷ []))) z.same_mem refl $
       rewrite ! 2 (λ (i : ℕ). ‵ ((MutSlice (named 1) κ' K.the_row).own_val (xl γ' z.list) (sl i ∷ []))) z.same-list refl $
       nothing ! $ move ! (4 ∷ 0 ∷ []) $ join ! $ move ! (2 ∷ 0 ∷ []) $ join ! $ frame ! $
       nothing ! $ owned ! usize (Is usize) (uint_Makes 𝓛 w64) n _ (refl, n-fits) $ fjoin ! $ move ! (2 ∷ 0 ∷ []) $ fjoin ! $ move ! (1 ∷ 0 ∷ []) $ fjoin ! $ owned ! u64 (Is u64) (uint_Makes 𝓛 w64) fuel _ (refl, fuel-fits) $ fjoin ! $
       owned ! T.the_row (Is T.the_row) (LL.makes T.the_type T'.the_plain 𝓛) h _ h-is $ fjoin ! $ owned ! O.the_row (Is O.the_row) (LL.makes O.the_type O'.the_plain 𝓛) c _ c-is $ fjoin ! $ frame ! $
-      owned ! N.the_row (Is N.the_row) (LL.makes N.the_type N'.the_plain 𝓛) (ranOf z.at) _ (ran-is z.at z.is) $ done !
+      owned ! N.the_row (Is N.the_row) (LL.makes N.the_type N'.the_plain 𝓛) (ran_of z.at) _ (ran-is z.at z.is) $ done !
 
   -- what each callee's triple binds outside, and that the walk has what it asks
   abbrev begun : Choices × (State × (ℕ × (ℕ × (ℕ × Unit {0}))))
   begun = (c, (h, (fuel, (length ks, (n, tt)))))
 
   abbrev to-begin : (Begin 𝓛 at_mem run).Ghost
-  to-begin = ((tt, tt, tt, begun, (valsC c, (valsS h, (vint w64 fuel ∷ [], (vint w64 (length ks) ∷ [], (vint w64 n ∷ [], tt)))))), tt)
+  to-begin = ((tt, tt, tt, begun, (vals_c c, (vals_s h, (vint w64 fuel ∷ [], (vint w64 (length ks) ∷ [], (vint w64 n ∷ [], tt)))))), tt)
 
   goes-begin : length ks < 2 ^ 64 → ent 𝓤 (emp 𝓤) ((Begin 𝓛 at_mem run).pre to-begin)
   goes-begin fits =
@@ -174,7 +174,7 @@ module _ {M : Type 1} {𝓤 : Ura M} (𝓛 : Logic 𝓤) (at_mem : Memory → SP
   asked z δ = (z.at, (xm δ z.mem, (length z.list, tt)))
 
   abbrev to-turn : Here → ℕ → GName → (Turning 𝓛 at_mem run).Ghost
-  to-turn z ν δ = (((ν ∷ [], tt), (full_share, tt), tt, asked z δ, (valsW z.at, (sm (length z.mem) ∷ [], (vint w64 (length z.list) ∷ [], tt)))), tt)
+  to-turn z ν δ = (((ν ∷ [], tt), (full_share, tt), tt, asked z δ, (vals_w z.at, (sm (length z.mem) ∷ [], (vint w64 (length z.list) ∷ [], tt)))), tt)
 
   goes-turn : (z : Here) (ν : ℕ) (δ : GName) → length z.list < 2 ^ 64
       → ent 𝓤 (sep 𝓤 (A.lft (ν ∷ []) full_share) (sem 𝓛 ((MutSlice (named 0) (ν ∷ []) u8).own_val (xm δ z.mem) (sm (length z.mem) ∷ [])))) ((Turning 𝓛 at_mem run).pre (to-turn z ν δ))
@@ -195,26 +195,26 @@ module _ {M : Type 1} {𝓤 : Ura M} (𝓛 : Logic 𝓤) (at_mem : Memory → SP
     went : Ahead t.next ms ls goal
     went = rw s (turned z.at z.mem ms t z.list e g goal z.comes)
 
-    abbrev then : length ms ≡ length z.mem → length ls ≡ length z.list → Is S.the_row t.next (valsW t.next) → Here
+    abbrev then : length ms ≡ length z.mem → length ls ≡ length z.list → Is S.the_row t.next (vals_w t.next) → Here
     then lm ll is = record { at = t.next; mem = ms; list = ls; comes = went; same_mem = lm ∙ z.same_mem; same-list = ll ∙ z.same-list; is = is }
 
   -- what whoever holds a `Turned` knows of its fields
-  parts : (t : Turned) (w : Val) → Is D.the_row t (w ∷ []) → Is S.the_row t.next (valsW t.next) × ((t.place < 2 ^ 64) × Is K.the_row t.pending (valsP t.pending))
+  parts : (t : Turned) (w : Val) → Is D.the_row t (w ∷ []) → Is S.the_row t.next (vals_w t.next) × ((t.place < 2 ^ 64) × Is K.the_row t.pending (vals_p t.pending))
   parts t w is = let fields = LL.owed D.the_type D'.the_laws t _ is in (fields.0, (fields.1.0.1, fields.1.1.0))
 
   module _ (𝓣 : Tables 𝓤 H) (known-begin : Triple 𝓤 (𝓣.C #begin) (Begin 𝓛 at_mem run)) (known-turn : Triple 𝓤 (𝓣.C #turn) (Turning 𝓛 at_mem run)) (known-note : Triple 𝓤 (𝓣.C #note-at) (Note 𝓛 at_mem run)) where
     -- the invariant: both slices, and the locals, the last first
     abbrev I : ℕ → ℕ → ℕ → ℕ → ℕ → ℕ → ℕ → ℕ → ℕ → ℕ → ℕ → ℕ → ℕ → ℕ → ℕ → ℕ → ℕ → Here → List (Item 𝓤)
     I l₀ l₁ l₂ l₃ l₄ l₅ l₆ l₇ l₈ l₉ l₁₀ l₁₁ l₁₂ l₁₃ l₁₄ l₁₅ l₁₆ z = Both z (
-        ‵ (froom (slice_ty (listRef erased)) l₁₆ 0) ∷ ‵ (fdies (slice_ty (listRef erased)) l₁₆) ∷ ‵ (froom (listRef erased) l₁₅ 0) ∷ ‵ (fdies (listRef erased) l₁₅) ∷ ‵ (froom ty_unit l₁₄ 0) ∷ ‵ (fdies ty_unit l₁₄) ∷ ‵ (froom (ty_int w64) l₁₃ 0) ∷ ‵ (fdies (ty_int w64) l₁₃)
-        ∷ ‵ (froom (slice_ty (memRef erased)) l₁₂ 0) ∷ ‵ (fdies (slice_ty (memRef erased)) l₁₂) ∷ ‵ (froom (memRef erased) l₁₁ 0) ∷ ‵ (fdies (memRef erased) l₁₁) ∷ ‵ (froom ty_bool l₁₀ 0) ∷ ‵ (fdies ty_bool l₁₀) ∷ ‵ (froom (ty_int w64) l₉ 0) ∷ ‵ (fdies (ty_int w64) l₉) ∷ ‵ (froom D'.mir l₈ 0) ∷ ‵ (fdies D'.mir l₈)
-        ∷ ‵ (fat full_share S'.mir l₇ 0 (LL.val S.the_type S'.the_laws z.at)) ∷ ‵ (fdies S'.mir l₇) ∷ ‵ (froom (ty_int w64) l₆ 0) ∷ ‵ (fdies (ty_int w64) l₆) ∷ ‵ (fat full_share (slice_ty (listRef (named 1))) l₅ 0 (sl (length z.list))) ∷ ‵ (fdies (slice_ty (listRef (named 1))) l₅) ∷ ‵ (fat full_share (slice_ty (memRef (named 0))) l₄ 0 (sm (length z.mem))) ∷ ‵ (fdies (slice_ty (memRef (named 0))) l₄)
+        ‵ (froom (slice_ty (list_ref erased)) l₁₆ 0) ∷ ‵ (fdies (slice_ty (list_ref erased)) l₁₆) ∷ ‵ (froom (list_ref erased) l₁₅ 0) ∷ ‵ (fdies (list_ref erased) l₁₅) ∷ ‵ (froom ty_unit l₁₄ 0) ∷ ‵ (fdies ty_unit l₁₄) ∷ ‵ (froom (ty_int w64) l₁₃ 0) ∷ ‵ (fdies (ty_int w64) l₁₃)
+        ∷ ‵ (froom (slice_ty (mem_ref erased)) l₁₂ 0) ∷ ‵ (fdies (slice_ty (mem_ref erased)) l₁₂) ∷ ‵ (froom (mem_ref erased) l₁₁ 0) ∷ ‵ (fdies (mem_ref erased) l₁₁) ∷ ‵ (froom ty_bool l₁₀ 0) ∷ ‵ (fdies ty_bool l₁₀) ∷ ‵ (froom (ty_int w64) l₉ 0) ∷ ‵ (fdies (ty_int w64) l₉) ∷ ‵ (froom D'.mir l₈ 0) ∷ ‵ (fdies D'.mir l₈)
+        ∷ ‵ (fat full_share S'.mir l₇ 0 (LL.val S.the_type S'.the_laws z.at)) ∷ ‵ (fdies S'.mir l₇) ∷ ‵ (froom (ty_int w64) l₆ 0) ∷ ‵ (fdies (ty_int w64) l₆) ∷ ‵ (fat full_share (slice_ty (list_ref (named 1))) l₅ 0 (sl (length z.list))) ∷ ‵ (fdies (slice_ty (list_ref (named 1))) l₅) ∷ ‵ (fat full_share (slice_ty (mem_ref (named 0))) l₄ 0 (sm (length z.mem))) ∷ ‵ (fdies (slice_ty (mem_ref (named 0))) l₄)
         ∷ ‵ (froom (ty_int w64) l₃ 0) ∷ ‵ (fdies (ty_int w64) l₃) ∷ ‵ (froom T'.mir l₂ 0) ∷ ‵ (fdies T'.mir l₂) ∷ ‵ (froom O'.mir l₁ 0) ∷ ‵ (fdies O'.mir l₁) ∷ ‵ (froom N'.mir l₀ 0) ∷ ‵ (fdies N'.mir l₀) ∷ [])
 
-    walk : Room u8 (length ys) → Room K.the_row (length ks) → ent 𝓤 (on_entry 𝓛 self.signature (κ, (κ', tt)) (q, (q', tt)) a vals) (WpFn 𝓤 H 𝓣.C 𝓣.Λ code.function (valsC c ++ valsS h ++ vint w64 fuel ∷ sm (length ys) ∷ sl (length ks) ∷ vint w64 n ∷ []) Post)
+    walk : Room u8 (length ys) → Room K.the_row (length ks) → ent 𝓤 (on_entry 𝓛 self.signature (κ, (κ', tt)) (q, (q', tt)) a vals) (WpFn 𝓤 H 𝓣.C 𝓣.Λ code.function (vals_c c ++ vals_s h ++ vint w64 fuel ∷ sm (length ys) ∷ sl (length ks) ∷ vint w64 n ∷ []) Post)
     unfolding after_turn
     walk room₀ room₀' =
-        qed 𝓛 ((‵ (flft κ q) ⊛ ‵ (flft κ' q') ⊛ ‵ ftrue) ∷ ‵ (owns (O.the_row ∷ T.the_row ∷ u64 ∷ MutSlice (named 0) κ u8 ∷ MutSlice (named 1) κ' K.the_row ∷ usize ∷ []) a vals) ∷ []) ∵ enter ! 𝓣.C 𝓣.Λ code.function (valsC c ++ valsS h ++ vint w64 fuel ∷ sm (length ys) ∷ sl (length ks) ∷ vint w64 n ∷ []) _ $
+        qed 𝓛 ((‵ (flft κ q) ⊛ ‵ (flft κ' q') ⊛ ‵ ftrue) ∷ ‵ (owns (O.the_row ∷ T.the_row ∷ u64 ∷ MutSlice (named 0) κ u8 ∷ MutSlice (named 1) κ' K.the_row ∷ usize ∷ []) a vals) ∷ []) ∵ enter ! 𝓣.C 𝓣.Λ code.function (vals_c c ++ vals_s h ++ vint w64 fuel ∷ sm (length ys) ∷ sl (length ks) ∷ vint w64 n ∷ []) _ $
         alloc1 ! (λ l₀. alloc1 ! (λ l₁. alloc1 ! (λ l₂. alloc1 ! (λ l₃. alloc1 ! (λ l₄. alloc1 ! (λ l₅. alloc1 ! (λ l₆. alloc1 ! (λ l₇. alloc1 ! (λ l₈. alloc1 ! (λ l₉. alloc1 ! (λ l₁₀. alloc1 ! (λ l₁₁. alloc1 ! (λ l₁₂. alloc1 ! (λ l₁₃. alloc1 ! (λ l₁₄. alloc1 ! (λ l₁₅. alloc1 ! (λ l₁₆. alloc0 ! $ params1 ! $
         pass1 ! (init ! 30 refl ((LL.lawful O.the_type O'.the_laws 𝓛).typed c _ c-is).0) $ pass1 ! (init ! 28 refl ((LL.lawful T.the_type T'.the_laws 𝓛).typed h _ h-is).0) $ pass1 ! (init ! 26 refl (tt, record { fits = fuel-fits })) $
         pass1 ! (init ! 24 refl (tt, (tt, (record { fits = room₀.0 }, tt)))) $ pass1 ! (init ! 22 refl (tt, (tt, (record { fits = room₀'.0 }, tt)))) $ pass1 ! (init ! 20 refl (tt, record { fits = n-fits })) $ pass0 ! $
@@ -270,12 +270,12 @@ module _ {M : Type 1} {𝓤 : Ura M} (𝓛 : Logic 𝓤) (at_mem : Memory → SP
         -- [what list's borrow owns; its token; true; …; …; what m's owns; its token; …; …; …; _16; …]
         assigns_last ! (of_opd ! (load ! (from ! (fld ! refl (stop !))) (look_in ! 26 (sub ! 0 refl (whole !))))) (from ! (stop !)) (store ! 28 refl ((LL.lawful S.the_type S'.the_laws 𝓛).typed t.next _ (parts t w is).0).0) $
         forget ! 10 refl $ forget ! 12 refl $ forget ! 14 refl $ forget ! 16 refl $ forget ! 18 refl $ forget ! 20 refl $ forget ! 22 refl $ forget ! 26 refl $
-        rewrite ! 32 (λ (i : ℕ). ‵ (fat full_share (slice_ty (listRef (named 1))) l₅ 0 (sl i))) (sym ll) refl $ rewrite ! 34 (λ (i : ℕ). ‵ (fat full_share (slice_ty (memRef (named 0))) l₄ 0 (sm i))) (sym lm) refl $
+        rewrite ! 32 (λ (i : ℕ). ‵ (fat full_share (slice_ty (list_ref (named 1))) l₅ 0 (sl i))) (sym ll) refl $ rewrite ! 34 (λ (i : ℕ). ‵ (fat full_share (slice_ty (mem_ref (named 0))) l₄ 0 (sm i))) (sym lm) refl $
         keep ! (5 ∷ 6 ∷ 0 ∷ 1 ∷ 10 ∷ 11 ∷ 12 ∷ 13 ∷ 14 ∷ 15 ∷ 16 ∷ 17 ∷ 18 ∷ 19 ∷ 20 ∷ 21 ∷ 22 ∷ 23 ∷ 24 ∷ 25 ∷ 26 ∷ 27 ∷ 28 ∷ 29 ∷ 30 ∷ 31 ∷ 32 ∷ 33 ∷ 34 ∷ 35 ∷ 36 ∷ 37 ∷ 38 ∷ 39 ∷ 40 ∷ 41 ∷ 42 ∷ 43 ∷ []) $
         again ! less (I l₀ l₁ l₂ l₃ l₄ l₅ l₆ l₇ l₈ l₉ l₁₀ l₁₁ l₁₂ l₁₃ l₁₄ l₁₅ l₁₆) z (then z g t zs.1.0 ws.0 e s lm ll (parts t w is).0) (falls z.at z.mem zs.1.0 t z.list e g))))))))))))))))))
         -- the loop is left, and the answer returned
         (λ no'.
-        assigns ! (agg ! (and_then ! (load ! (from ! (fld ! refl (fld ! refl (stop !)))) (look_in ! 22 (sub ! 3 refl (sub ! 0 refl (whole !))))) (and_then ! (load ! (from ! (fld ! refl (fld ! refl (stop !)))) (look_in ! 22 (sub ! 4 refl (sub ! 0 refl (whole !))))) (and_then ! (load ! (from ! (fld ! refl (stop !))) (look_in ! 22 (sub ! 1 refl (whole !)))) (and_then ! (load ! (from ! (fld ! refl (fld ! refl (stop !)))) (look_in ! 22 (sub ! 5 refl (sub ! 0 refl (whole !))))) (no_more !)))))) (from ! (stop !)) (init ! 36 refl ((LL.lawful N.the_type N'.the_laws 𝓛).typed (ranOf z.at) _ (ran-is z.at z.is)).0) $
+        assigns ! (agg ! (and_then ! (load ! (from ! (fld ! refl (fld ! refl (stop !)))) (look_in ! 22 (sub ! 3 refl (sub ! 0 refl (whole !))))) (and_then ! (load ! (from ! (fld ! refl (fld ! refl (stop !)))) (look_in ! 22 (sub ! 4 refl (sub ! 0 refl (whole !))))) (and_then ! (load ! (from ! (fld ! refl (stop !))) (look_in ! 22 (sub ! 1 refl (whole !)))) (and_then ! (load ! (from ! (fld ! refl (fld ! refl (stop !)))) (look_in ! 22 (sub ! 5 refl (sub ! 0 refl (whole !))))) (no_more !)))))) (from ! (stop !)) (init ! 36 refl ((LL.lawful N.the_type N'.the_laws 𝓛).typed (ran_of z.at) _ (ran-is z.at z.is)).0) $
         returns_within ! Post refl (look ! 36 refl) $ forget ! 16 refl $ forget ! 22 refl $ forget ! 26 refl $ forget ! 28 refl $ forget ! 36 refl $
         move ! (36 ∷ 37 ∷ []) $ free1 ! $ move ! (34 ∷ 35 ∷ []) $ free1 ! $ move ! (32 ∷ 33 ∷ []) $ free1 ! $ move ! (30 ∷ 31 ∷ []) $ free1 ! $ move ! (28 ∷ 29 ∷ []) $ free1 ! $ move ! (26 ∷ 27 ∷ []) $ free1 ! $ move ! (24 ∷ 25 ∷ []) $ free1 ! $ move ! (22 ∷ 23 ∷ []) $ free1 ! $ move ! (20 ∷ 21 ∷ []) $ free1 ! $ move ! (18 ∷ 19 ∷ []) $ free1 ! $ move ! (16 ∷ 17 ∷ []) $ free1 ! $ move ! (14 ∷ 15 ∷ []) $ free1 ! $ move ! (12 ∷ 13 ∷ []) $ free1 ! $ move ! (10 ∷ 11 ∷ []) $ free1 ! $ move ! (8 ∷ 9 ∷ []) $ free1 ! $ move ! (6 ∷ 7 ∷ []) $ free1 ! $ move ! (4 ∷ 5 ∷ []) $ free1 ! $ free0 ! $
         by ! (exits z (fails _ no'))))
@@ -285,7 +285,7 @@ module _ {M : Type 1} {𝓤 : Ura M} (𝓛 : Logic 𝓤) (mem : Memory → SProp
   open 𝓛 use {H}
 
   self-walks : (𝓣 : Tables 𝓤 H) → Triple 𝓤 (𝓣.C #begin) (Begin 𝓛 mem run) → Triple 𝓤 (𝓣.C #turn) (Turning 𝓛 mem run) → Triple 𝓤 (𝓣.C #note-at) (Note 𝓛 mem run) → Walks 𝓛 self.ended stayed (WpFn 𝓤 H 𝓣.C 𝓣.Λ code.function) (self.clauses 𝓛 mem run)
-  self-walks 𝓣 known-begin known-turn known-note = walked 𝓛 self.ended stayed (self.clauses 𝓛 mem run) (WpFn 𝓤 H 𝓣.C 𝓣.Λ code.function) (λ κs. (valsC, (valsS, (uint_vals w64, (mut_slice_vals, (mut_slice_vals, (uint_vals w64, tt))))))) (λ κs. (LL.tells O.the_type O'.the_laws, (LL.tells T.the_type T'.the_laws, (uint_Tells w64, (mut_slice_Tells (named 0) κs.0 u8, (mut_slice_Tells (named 1) κs.1.0 K.the_row, (uint_Tells w64, tt)))))))
+  self-walks 𝓣 known-begin known-turn known-note = walked 𝓛 self.ended stayed (self.clauses 𝓛 mem run) (WpFn 𝓤 H 𝓣.C 𝓣.Λ code.function) (λ κs. (vals_c, (vals_s, (uint_vals w64, (mut_slice_vals, (mut_slice_vals, (uint_vals w64, tt))))))) (λ κs. (LL.tells O.the_type O'.the_laws, (LL.tells T.the_type T'.the_laws, (uint_Tells w64, (mut_slice_Tells (named 0) κs.0 u8, (mut_slice_Tells (named 1) κs.1.0 K.the_row, (uint_Tells w64, tt)))))))
       (λ κs qs bounds a g are. via 𝓤 _ (fst∗ 𝓤 _ (emp 𝓤))
       (walk 𝓛 mem run κs.0 κs.1.0 qs.0 qs.1.0 a.0 are.0 a.1.0 are.1.0 a.1.1.0 are.1.1.0.1 a.1.1.1.0.ref_ptr.0 a.1.1.1.0.ref_ptr.1 a.1.1.1.0.ghost_name a.1.1.1.0.now a.1.1.1.1.0.ref_ptr.0 a.1.1.1.1.0.ref_ptr.1 a.1.1.1.1.0.ghost_name a.1.1.1.1.0.now a.1.1.1.1.1.0 are.1.1.1.1.1.0.1 𝓣 known-begin known-turn known-note are.1.1.1.0.0.1 are.1.1.1.1.0.0.1))
 

@@ -11,7 +11,7 @@ use Rattle.execute.specs.declared.Choices.{Choices}
 use Rattle.checked.specs.Inner.{Steps}
 use Rattle.checks.specs.declared.Pending.{Pending}
 use Rattle.checked.specs.declared.Moved.{Moved}
-use Rattle.checks.proofs.Noting.{valsP, Note, to-note, goes-note}
+use Rattle.checks.proofs.Noting.{vals_p, Note, to-note, goes-note}
 use Rattle.execute.specs.contracts.Choices as O
 use Rattle.execute.proofs.Choices.TheLaws as O'
 use Rattle.state.specs.contracts.State as T
@@ -38,17 +38,17 @@ abbrev stayed : Stays (self.ended).signature.params (self.ended).kept
 stayed = (stay_none (λ _. O.the_row) yes, (stay_none (λ _. T.the_row) yes, (gave_slice (0 ∷ []) tt (plain (λ _. u8)), (gave_slice (1 ∷ []) tt (plain (λ _. K.the_row)), (stay_none (λ _. usize) yes, tt)))))
 
 -- the machine values of the choices and of a state
-abbrev valsC : Choices → List Val
-valsC = LL.vals O.the_type O'.the_laws
+abbrev vals_c : Choices → List Val
+vals_c = LL.vals O.the_type O'.the_laws
 
-abbrev valsS : State → List Val
-valsS = LL.vals T.the_type T'.the_laws
+abbrev vals_s : State → List Val
+vals_s = LL.vals T.the_type T'.the_laws
 
 -- the contract that the proof cites beside `Note`
 abbrev Step : {M : Type 1} {𝓤 : Ura M} (𝓛 : Logic 𝓤) (mem : Memory → SProp 𝓤) (run : Routine → Fun 𝓤) → Contract 𝓤
 Step 𝓛 mem run = triple_of 𝓛 step-at.signature (step-at.spec 𝓛 mem run)
 
-module _ {M : Type 1} {𝓤 : Ura M} (𝓛 : Logic 𝓤) (at_mem : Memory → SProp 𝓤) (run : Routine → Fun 𝓤) (κ₁ κ₂ : Lft) (q₁ q₂ : Share) (c : Choices) (c-is : Is O.the_row c (valsC c)) (h : State) (h-is : Is T.the_row h (valsS h))
+module _ {M : Type 1} {𝓤 : Ura M} (𝓛 : Logic 𝓤) (at_mem : Memory → SProp 𝓤) (run : Routine → Fun 𝓤) (κ₁ κ₂ : Lft) (q₁ q₂ : Share) (c : Choices) (c-is : Is O.the_row c (vals_c c)) (h : State) (h-is : Is T.the_row h (vals_s h))
     (b₁ o₁ : ℕ) (γ₁ : GName) (ys : List ℕ) (b₂ o₂ : ℕ) (γ₂ : GName) (ks : List Pending) (n : ℕ) (n-fits : n < 2 ^ 64) where
   open 𝓛 use {H, A}
 
@@ -71,7 +71,7 @@ module _ {M : Type 1} {𝓤 : Ura M} (𝓛 : Logic 𝓤) (at_mem : Memory → SP
   a = (c, (h, (xm, (xl, (n, tt)))))
 
   abbrev vals : List Val × (List Val × (List Val × (List Val × (List Val × Unit {0}))))
-  vals = (valsC c, (valsS h, (sm ∷ [], (sl ∷ [], (vint w64 n ∷ [], tt)))))
+  vals = (vals_c c, (vals_s h, (sm ∷ [], (sl ∷ [], (vint w64 n ∷ [], tt)))))
 
   abbrev Post : Val → SProp 𝓤
   Post = (walk_of 𝓛 self.ended stayed (self.clauses 𝓛 at_mem run)).post (((κ₁, (κ₂, tt)), (q₁, (q₂, tt)), tt, a, vals), tt)
@@ -81,7 +81,7 @@ module _ {M : Type 1} {𝓤 : Ura M} (𝓛 : Logic 𝓤) (at_mem : Memory → SP
   asked = (c, (h, (xm, (length ks, (n, tt)))))
 
   abbrev to_step : (Step 𝓛 at_mem run).Ghost
-  to_step = (((κ₁, tt), (q₁, tt), tt, asked, (valsC c, (valsS h, (sm ∷ [], (vint w64 (length ks) ∷ [], (vint w64 n ∷ [], tt)))))), tt)
+  to_step = (((κ₁, tt), (q₁, tt), tt, asked, (vals_c c, (vals_s h, (sm ∷ [], (vint w64 (length ks) ∷ [], (vint w64 n ∷ [], tt)))))), tt)
 
   goes_step : length ks < 2 ^ 64 → ent 𝓤 (sep 𝓤 (A.lft κ₁ q₁) (sem 𝓛 ((MutSlice (named 0) κ₁ u8).own_val xm (sm ∷ [])))) ((Step 𝓛 at_mem run).pre to_step)
   goes_step fits =
@@ -100,13 +100,13 @@ module _ {M : Type 1} {𝓤 : Ura M} (𝓛 : Logic 𝓤) (at_mem : Memory → SP
       owned ! N.the_row (Is N.the_row) (LL.makes N.the_type N'.the_plain 𝓛) r.done _ is $ move ! (1 ∷ 0 ∷ []) $ done !
 
   -- what whoever holds a `Moved` knows of its fields
-  parts : (r : Moved) (w : Val) → Is D.the_row r (w ∷ []) → Is N.the_row r.done (LL.vals N.the_type N'.the_laws r.done) × ((r.place < 2 ^ 64) × Is K.the_row r.pending (valsP r.pending))
+  parts : (r : Moved) (w : Val) → Is D.the_row r (w ∷ []) → Is N.the_row r.done (LL.vals N.the_type N'.the_laws r.done) × ((r.place < 2 ^ 64) × Is K.the_row r.pending (vals_p r.pending))
   parts r w is = let fields = LL.owed D.the_type D'.the_laws r _ is in (fields.0, (fields.1.0.1, fields.1.1.0))
 
   module _ (C : Calls 𝓤 H) (Λ : Loops 𝓤 H) (fm : FmC 𝓤 H 𝓛.laws C) (Known-step : Triple 𝓤 (C #step-at) (Step 𝓛 at_mem run)) (known-note : Triple 𝓤 (C #note-at) (Note 𝓛 at_mem run)) where
-    walk : Room u8 (length ys) → Room K.the_row (length ks) → ent 𝓤 (on_entry 𝓛 self.signature (κ₁, (κ₂, tt)) (q₁, (q₂, tt)) a vals) (WpFn 𝓤 H C Λ code.function (valsC c ++ valsS h ++ sm ∷ sl ∷ vint w64 n ∷ []) Post)
+    walk : Room u8 (length ys) → Room K.the_row (length ks) → ent 𝓤 (on_entry 𝓛 self.signature (κ₁, (κ₂, tt)) (q₁, (q₂, tt)) a vals) (WpFn 𝓤 H C Λ code.function (vals_c c ++ vals_s h ++ sm ∷ sl ∷ vint w64 n ∷ []) Post)
     walk room room' =
-        qed 𝓛 ((‵ (flft κ₁ q₁) ⊛ ‵ (flft κ₂ q₂) ⊛ ‵ ftrue) ∷ ‵ (owns (O.the_row ∷ T.the_row ∷ MutSlice (named 0) κ₁ u8 ∷ MutSlice (named 1) κ₂ K.the_row ∷ usize ∷ []) a vals) ∷ []) ∵ enter ! C Λ code.function (valsC c ++ valsS h ++ sm ∷ sl ∷ vint w64 n ∷ []) _ $
+        qed 𝓛 ((‵ (flft κ₁ q₁) ⊛ ‵ (flft κ₂ q₂) ⊛ ‵ ftrue) ∷ ‵ (owns (O.the_row ∷ T.the_row ∷ MutSlice (named 0) κ₁ u8 ∷ MutSlice (named 1) κ₂ K.the_row ∷ usize ∷ []) a vals) ∷ []) ∵ enter ! C Λ code.function (vals_c c ++ vals_s h ++ sm ∷ sl ∷ vint w64 n ∷ []) _ $
         alloc1 ! (λ l₀. alloc1 ! (λ l₁. alloc1 ! (λ l₂. alloc1 ! (λ l₃. alloc1 ! (λ l₄. alloc1 ! (λ l₅. alloc1 ! (λ l₆. alloc1 ! (λ l₇. alloc1 ! (λ l₈. alloc1 ! (λ l₉. alloc1 ! (λ l₁₀. alloc1 ! (λ l₁₁. alloc1 ! (λ l₁₂. alloc0 ! $ params1 ! $
         pass1 ! (init ! 22 refl ((LL.lawful O.the_type O'.the_laws 𝓛).typed c _ c-is).0) $ pass1 ! (init ! 20 refl ((LL.lawful T.the_type T'.the_laws 𝓛).typed h _ h-is).0) $
         pass1 ! (init ! 18 refl (tt, (tt, (record { fits = room.0 }, tt)))) $ pass1 ! (init ! 16 refl (tt, (tt, (record { fits = room'.0 }, tt)))) $ pass1 ! (init ! 14 refl (tt, record { fits = n-fits })) $ pass0 ! $
@@ -142,7 +142,7 @@ module _ {M : Type 1} {𝓤 : Ura M} (𝓛 : Logic 𝓤) (mem : Memory → SProp
   open 𝓛 use {H}
 
   self-walks : (C : Calls 𝓤 H) (Λ : Loops 𝓤 H) → FmC 𝓤 H 𝓛.laws C → Triple 𝓤 (C #step-at) (Step 𝓛 mem run) → Triple 𝓤 (C #note-at) (Note 𝓛 mem run) → Walks 𝓛 self.ended stayed (WpFn 𝓤 H C Λ code.function) (self.clauses 𝓛 mem run)
-  self-walks C Λ fm Known-step known-note = walked 𝓛 self.ended stayed (self.clauses 𝓛 mem run) (WpFn 𝓤 H C Λ code.function) (λ κs. (valsC, (valsS, (mut_slice_vals, (mut_slice_vals, (uint_vals w64, tt)))))) (λ κs. (LL.tells O.the_type O'.the_laws, (LL.tells T.the_type T'.the_laws, (mut_slice_Tells (named 0) κs.0 u8, (mut_slice_Tells (named 1) κs.1.0 K.the_row, (uint_Tells w64, tt))))))
+  self-walks C Λ fm Known-step known-note = walked 𝓛 self.ended stayed (self.clauses 𝓛 mem run) (WpFn 𝓤 H C Λ code.function) (λ κs. (vals_c, (vals_s, (mut_slice_vals, (mut_slice_vals, (uint_vals w64, tt)))))) (λ κs. (LL.tells O.the_type O'.the_laws, (LL.tells T.the_type T'.the_laws, (mut_slice_Tells (named 0) κs.0 u8, (mut_slice_Tells (named 1) κs.1.0 K.the_row, (uint_Tells w64, tt))))))
       (λ κs qs bounds a g are. via 𝓤 _ (fst∗ 𝓤 _ (emp 𝓤))
       (walk 𝓛 mem run κs.0 κs.1.0 qs.0 qs.1.0 a.0 are.0 a.1.0 are.1.0 a.1.1.0.ref_ptr.0 a.1.1.0.ref_ptr.1 a.1.1.0.ghost_name a.1.1.0.now a.1.1.1.0.ref_ptr.0 a.1.1.1.0.ref_ptr.1 a.1.1.1.0.ghost_name a.1.1.1.0.now a.1.1.1.1.0 are.1.1.1.1.0.1 C Λ fm Known-step known-note are.1.1.0.0.1 are.1.1.1.0.0.1))
 

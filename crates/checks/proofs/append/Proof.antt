@@ -9,7 +9,7 @@ use denote.Enum.Laws as EL
 use Rattle.checks.specs.Places.{Fits}
 use Rattle.checks.specs.declared.Pending.{Pending}
 use Rattle.checks.specs.declared.Placed.{Placed}
-use Rattle.checks.proofs.Noting.{valsP, Note, to-note, goes-note}
+use Rattle.checks.proofs.Noting.{vals_p, Note, to-note, goes-note}
 use Rattle.pending.specs.contracts.Counted as N
 use Rattle.pending.proofs.Counted.TheLaws as N'
 use Rattle.checks.specs.contracts.Pending as K
@@ -36,7 +36,7 @@ stayed = (gave_slice (0 ∷ []) tt (plain (λ _. K.the_row)), (stay_none (λ _. 
 abbrev Place : {M : Type 1} {𝓤 : Ura M} (𝓛 : Logic 𝓤) (mem : Memory → SProp 𝓤) (run : Routine → Fun 𝓤) → Contract 𝓤
 Place 𝓛 mem run = triple_of 𝓛 place-for.signature (place-for.spec 𝓛 mem run)
 
-module _ {M : Type 1} {𝓤 : Ura M} (𝓛 : Logic 𝓤) (at_mem : Memory → SProp 𝓤) (run : Routine → Fun 𝓤) (κ : Lft) (q : Share) (b o : ℕ) (γ : GName) (ks : List Pending) (n : ℕ) (n-fits : n < 2 ^ 64) (p : Pending) (p-is : Is K.the_row p (valsP p)) where
+module _ {M : Type 1} {𝓤 : Ura M} (𝓛 : Logic 𝓤) (at_mem : Memory → SProp 𝓤) (run : Routine → Fun 𝓤) (κ : Lft) (q : Share) (b o : ℕ) (γ : GName) (ks : List Pending) (n : ℕ) (n-fits : n < 2 ^ 64) (p : Pending) (p-is : Is K.the_row p (vals_p p)) where
   open 𝓛 use {H}
 
   abbrev xl : MutBor (List Pending)
@@ -52,13 +52,13 @@ module _ {M : Type 1} {𝓤 : Ura M} (𝓛 : Logic 𝓤) (at_mem : Memory → SP
   a = (xl, (n, (p, tt)))
 
   abbrev vals : List Val × (List Val × (List Val × Unit {0}))
-  vals = (sl ∷ [], (vint w64 n ∷ [], (valsP p, tt)))
+  vals = (sl ∷ [], (vint w64 n ∷ [], (vals_p p, tt)))
 
   abbrev Post : Val → SProp 𝓤
   Post = (walk_of 𝓛 self.ended stayed (self.clauses 𝓛 at_mem run)).post (((κ, tt), (q, tt), tt, a, vals), tt)
 
   abbrev to-place : (Place 𝓛 at_mem run).Ghost
-  to-place = ((tt, tt, tt, (length ks, (n, (p, tt))), (vint w64 (length ks) ∷ [], (vint w64 n ∷ [], (valsP p, tt)))), tt)
+  to-place = ((tt, tt, tt, (length ks, (n, (p, tt))), (vint w64 (length ks) ∷ [], (vint w64 n ∷ [], (vals_p p, tt)))), tt)
 
   goes-place : length ks < 2 ^ 64 → ent 𝓤 (emp 𝓤) ((Place 𝓛 at_mem run).pre to-place)
   goes-place fits =
@@ -79,9 +79,9 @@ module _ {M : Type 1} {𝓤 : Ura M} (𝓛 : Logic 𝓤) (at_mem : Memory → SP
   parts r w is = let fields = LL.owed D.the_type D'.the_laws r _ is in (fields.0, fields.1.0.1)
 
   module _ (C : Calls 𝓤 H) (Λ : Loops 𝓤 H) (fm : FmC 𝓤 H 𝓛.laws C) (known-place : Triple 𝓤 (C #checks·place-for) (Place 𝓛 at_mem run)) (known-note : Triple 𝓤 (C #checks·note-at) (Note 𝓛 at_mem run)) where
-    walk : Room K.the_row (length ks) → ent 𝓤 (on_entry 𝓛 self.signature (κ, tt) (q, tt) a vals) (WpFn 𝓤 H C Λ code.function (sl ∷ vint w64 n ∷ valsP p) Post)
+    walk : Room K.the_row (length ks) → ent 𝓤 (on_entry 𝓛 self.signature (κ, tt) (q, tt) a vals) (WpFn 𝓤 H C Λ code.function (sl ∷ vint w64 n ∷ vals_p p) Post)
     walk room =
-        qed 𝓛 ((‵ (flft κ q) ⊛ ‵ ftrue) ∷ ‵ (owns (MutSlice (named 0) κ K.the_row ∷ usize ∷ K.the_row ∷ []) a vals) ∷ []) ∵ enter ! C Λ code.function (sl ∷ vint w64 n ∷ valsP p) _ $
+        qed 𝓛 ((‵ (flft κ q) ⊛ ‵ ftrue) ∷ ‵ (owns (MutSlice (named 0) κ K.the_row ∷ usize ∷ K.the_row ∷ []) a vals) ∷ []) ∵ enter ! C Λ code.function (sl ∷ vint w64 n ∷ vals_p p) _ $
         alloc1 ! (λ l₀. alloc1 ! (λ l₁. alloc1 ! (λ l₂. alloc1 ! (λ l₃. alloc1 ! (λ l₄. alloc1 ! (λ l₅. alloc1 ! (λ l₆. alloc1 ! (λ l₇. alloc1 ! (λ l₈. alloc0 ! $ params1 ! $
         pass1 ! (init ! 14 refl (tt, (tt, (record { fits = room.0 }, tt)))) $ pass1 ! (init ! 12 refl (tt, record { fits = n-fits })) $ pass1 ! (init ! 10 refl ((LL.lawful K.the_type K'.the_laws 𝓛).typed p _ p-is).0) $ pass0 ! $
         assigns ! (of_opd ! (load ! (from ! (fld ! refl (stop !))) (look_in ! 14 (sub ! 1 refl (whole !))))) (from ! (stop !)) (init ! 6 refl (tt, record { fits = room.0 })) $
@@ -113,7 +113,7 @@ module _ {M : Type 1} {𝓤 : Ura M} (𝓛 : Logic 𝓤) (mem : Memory → SProp
   open 𝓛 use {H}
 
   self-walks : (C : Calls 𝓤 H) (Λ : Loops 𝓤 H) → FmC 𝓤 H 𝓛.laws C → Triple 𝓤 (C #checks·place-for) (Place 𝓛 mem run) → Triple 𝓤 (C #checks·note-at) (Note 𝓛 mem run) → Walks 𝓛 self.ended stayed (WpFn 𝓤 H C Λ code.function) (self.clauses 𝓛 mem run)
-  self-walks C Λ fm known-place known-note = walked 𝓛 self.ended stayed (self.clauses 𝓛 mem run) (WpFn 𝓤 H C Λ code.function) (λ κs. (mut_slice_vals, (uint_vals w64, (valsP, tt)))) (λ κs. (mut_slice_Tells (named 0) κs.0 K.the_row, (uint_Tells w64, (LL.tells K.the_type K'.the_laws, tt))))
+  self-walks C Λ fm known-place known-note = walked 𝓛 self.ended stayed (self.clauses 𝓛 mem run) (WpFn 𝓤 H C Λ code.function) (λ κs. (mut_slice_vals, (uint_vals w64, (vals_p, tt)))) (λ κs. (mut_slice_Tells (named 0) κs.0 K.the_row, (uint_Tells w64, (LL.tells K.the_type K'.the_laws, tt))))
       (λ κs qs bounds a g are. via 𝓤 _ (fst∗ 𝓤 _ (emp 𝓤))
       (walk 𝓛 mem run κs.0 qs.0 a.0.ref_ptr.0 a.0.ref_ptr.1 a.0.ghost_name a.0.now a.1.0 are.1.0.1 a.1.1.0 are.1.1.0 C Λ fm known-place known-note are.0.0.1))
 

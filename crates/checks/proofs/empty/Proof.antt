@@ -7,7 +7,7 @@ use Rattle.walks.proofs.Walk.{ !, AllGo, Calls, Fun, Is, Lft, List, Loops, Meets
 use Rattle.walks.proofs.Tests.{holds, fails}
 use denote.Enum.Laws as EL
 use borrow.Author.Tests.{ltb-true, ltb-false}
-use Rattle.pending.specs.Pending.{emptyAnswer, emptyLists}
+use Rattle.pending.specs.Pending.{empty_answer, empty_lists}
 use Rattle.pending.specs.declared.Counted.{Counted}
 use Rattle.pending.specs.declared.Counted.TheVariants.{Count, Refused}
 use Rattle.checks.specs.Records.{listed}
@@ -28,16 +28,16 @@ use Rattle.checks.proofs.empty.Code.Mir as code-mir
 abbrev stayed : Stays (self.ended).signature.params (self.ended).kept
 stayed = (stay_slice (0 ∷ []) tt (plain (λ _. K.the_row)), (stay_none (λ _. usize) yes, tt))
 
-abbrev valsN : Counted → List Val
-valsN = EL.vals N.the_type N'.the_laws
+abbrev vals_n : Counted → List Val
+vals_n = EL.vals N.the_type N'.the_laws
 
 malformed-is : Is R.the_row Malformed (EL.vals R.the_type R'.the_laws Malformed)
 malformed-is = EL.owes R.the_type R'.the_laws Malformed tt
 
-refused-is : Is N.the_row (Refused Malformed) (valsN (Refused Malformed))
+refused-is : Is N.the_row (Refused Malformed) (vals_n (Refused Malformed))
 refused-is = EL.owes N.the_type N'.the_laws (Refused Malformed) (malformed-is, tt)
 
-none_is : Is N.the_row (Count 0) (valsN (Count 0))
+none_is : Is N.the_row (Count 0) (vals_n (Count 0))
 none_is = EL.owes N.the_type N'.the_laws (Count 0) ((refl, lit< tt), tt)
 
 module _ {M : Type 1} {𝓤 : Ura M} (𝓛 : Logic 𝓤) (at_mem : Memory → SProp 𝓤) (run : Routine → Fun 𝓤) (κ : Lft) (q : Share) (x : MutBor (List Pending)) (n : ℕ) (n-fits : n < 2 ^ 64) where
@@ -52,7 +52,7 @@ module _ {M : Type 1} {𝓤 : Ura M} (𝓛 : Logic 𝓤) (at_mem : Memory → SP
   abbrev Post : Val → SProp 𝓤
   Post = (walk_of 𝓛 self.ended stayed (self.clauses 𝓛 at_mem run)).post (((κ, tt), (q, tt), tt, (x, (n, tt)), at), tt)
 
-  exits : (r : Counted) → (r ≡ emptyAnswer (listed n x.now)) × (listed (emptyLists (listed n x.now)).count x.now ≡ emptyLists (listed n x.now))
+  exits : (r : Counted) → (r ≡ empty_answer (listed n x.now)) × (listed (empty_lists (listed n x.now)).count x.now ≡ empty_lists (listed n x.now))
       → (v : Val) → Is N.the_row r (v ∷ []) → ent 𝓤 (on_entry 𝓛 self.signature (κ, tt) (q, tt) (x, (n, tt)) at) (Post v)
   exits r e v is =
       qed 𝓛 ((‵ (flft κ q) ⊛ ‵ ftrue) ∷ ‵ (owns (MutSlice (named 0) κ K.the_row ∷ usize ∷ []) (x, (n, tt)) at) ∷ []) ∵

@@ -7,7 +7,7 @@ use Rattle.walks.proofs.Walk.{ !, AllGo, Calls, Fun, GName, Held, Is, Lft, List,
 use denote.Struct.Laws as LL
 use lib.Seq.{set_out}
 use Rattle.checks.proofs.Listed.{none}
-use Rattle.checks.proofs.Noting.{valsP}
+use Rattle.checks.proofs.Noting.{vals_p}
 use Rattle.checks.specs.declared.Pending.{Pending}
 use Rattle.checks.specs.contracts.Pending as T
 use Rattle.checks.proofs.Pending.TheLaws as T'
@@ -23,7 +23,7 @@ stayed = (stay_slice (0 ∷ []) tt (plain (λ _. T.the_row)), (stay_none (λ _. 
 abbrev Arg : Type 0
 Arg = MutBor (List Pending) × (ℕ × (Pending × Unit {0}))
 
-module _ {M : Type 1} {𝓤 : Ura M} (𝓛 : Logic 𝓤) (at_mem : Memory → SProp 𝓤) (run : Routine → Fun 𝓤) (κ : Lft) (q : Share) (b o : ℕ) (γ : GName) (ys : List Pending) (i : ℕ) (c : Pending) (i-fits : i < 2 ^ 64) (is : Is T.the_row c (valsP c)) where
+module _ {M : Type 1} {𝓤 : Ura M} (𝓛 : Logic 𝓤) (at_mem : Memory → SProp 𝓤) (run : Routine → Fun 𝓤) (κ : Lft) (q : Share) (b o : ℕ) (γ : GName) (ys : List Pending) (i : ℕ) (c : Pending) (i-fits : i < 2 ^ 64) (is : Is T.the_row c (vals_p c)) where
   open 𝓛 use {H}
 
   abbrev x : MutBor (List Pending)
@@ -36,7 +36,7 @@ module _ {M : Type 1} {𝓤 : Ura M} (𝓛 : Logic 𝓤) (at_mem : Memory → SP
   s = slice_val (b, o) (length ys)
 
   abbrev at : List Val × (List Val × (List Val × Unit {0}))
-  at = (s ∷ [], (vint w64 i ∷ [], (valsP c, tt)))
+  at = (s ∷ [], (vint w64 i ∷ [], (vals_p c, tt)))
 
   abbrev zs : List Pending
   zs = set ys i c
@@ -61,9 +61,9 @@ module _ {M : Type 1} {𝓤 : Ura M} (𝓛 : Logic 𝓤) (at_mem : Memory → SP
       frame ! $ feq_i ! (List Val) (vunit ∷ []) (vunit ∷ []) refl $ done !
 
   module _ (C : Calls 𝓤 H) (Λ : Loops 𝓤 H) where
-    walk : Room T.the_row (length ys) → ent 𝓤 (on_entry 𝓛 self.signature (κ, tt) (q, tt) a at) (WpFn 𝓤 H C Λ code.function (s ∷ vint w64 i ∷ valsP c) Post)
+    walk : Room T.the_row (length ys) → ent 𝓤 (on_entry 𝓛 self.signature (κ, tt) (q, tt) a at) (WpFn 𝓤 H C Λ code.function (s ∷ vint w64 i ∷ vals_p c) Post)
     walk room =
-        qed 𝓛 ((‵ (flft κ q) ⊛ ‵ ftrue) ∷ ‵ (owns (MutSlice (named 0) κ T.the_row ∷ usize ∷ T.the_row ∷ []) a at) ∷ []) ∵ enter ! C Λ code.function (s ∷ vint w64 i ∷ valsP c) _ $
+        qed 𝓛 ((‵ (flft κ q) ⊛ ‵ ftrue) ∷ ‵ (owns (MutSlice (named 0) κ T.the_row ∷ usize ∷ T.the_row ∷ []) a at) ∷ []) ∵ enter ! C Λ code.function (s ∷ vint w64 i ∷ vals_p c) _ $
         alloc1 ! (λ l₀. alloc1 ! (λ l₁. alloc1 ! (λ l₂. alloc1 ! (λ l₃. alloc1 ! (λ l₄. alloc1 ! (λ l₅. alloc1 ! (λ l₆. alloc0 ! $ params1 ! $
         pass1 ! (init ! 10 refl (tt, (tt, (record { fits = room.0 }, tt)))) $ pass1 ! (init ! 8 refl (tt, record { fits = i-fits })) $ pass1 ! (init ! 6 refl ((LL.lawful T.the_type T'.the_laws 𝓛).typed c _ is).0) $ pass0 ! $
         assigns ! (of_opd ! (load ! (from ! (fld ! refl (stop !))) (look_in ! 10 (sub ! 1 refl (whole !))))) (from ! (stop !)) (init ! 4 refl (tt, record { fits = room.0 })) $
@@ -83,10 +83,10 @@ module _ {M : Type 1} {𝓤 : Ura M} (𝓛 : Logic 𝓤) (at_mem : Memory → SP
         assigns ! (bin ! (load ! (from ! (fld ! refl (stop !))) (look_in ! 10 (sub ! 0 refl (whole !)))) (load ! (from ! (stop !)) (look ! 4 refl)) tt) (from ! (stop !)) (init ! 0 refl (tt, tt)) $
         rewrite ! 0 (λ (p : ℕ). ‵ (fat full_share ty_ptr l₆ 0 (vptr b p))) (sym (place_is 24 o i)) refl $
         move ! (15 ∷ []) $ fsplit ! $ fsplit ! $ move ! (1 ∷ []) $ fsplit ! $ move ! (18 ∷ []) $ split ! $ move ! (2 ∷ 3 ∷ 0 ∷ []) $
-        opens_slice ! tt T.the_row ys b o $ elem_out ! T.the_row (Is T.the_row) (shows 𝓛 T.the_row) valsP (LL.tells T.the_type T'.the_laws) full_share ys i none b o l (λ _.
+        opens_slice ! tt T.the_row ys b o $ elem_out ! T.the_row (Is T.the_row) (shows 𝓛 T.the_row) vals_p (LL.tells T.the_type T'.the_laws) full_share ys i none b o l (λ _.
         -- [list[i]; what it owns; the others; the open borrow; obs; auth; true; list's fact; i's and c's; _6; …; _5; …; _4; …; _3; …; _2; …; _1; …; _0; …]
         assigns ! (of_opd ! (load ! (from ! (stop !)) (look ! 15 refl))) (from ! (hop ! (look ! 9 refl) (stop !))) (store_raw ! 0 refl ((LL.lawful T.the_type T'.the_laws 𝓛).typed c _ is).0) $
-        move ! (1 ∷ []) $ drop ! $ owned ! T.the_row (Is T.the_row) (LL.makes T.the_type T'.the_plain 𝓛) c _ is $ move ! (1 ∷ 0 ∷ []) $ elem_put ! T.the_row full_share ys i c (valsP c) b o l $
+        move ! (1 ∷ []) $ drop ! $ owned ! T.the_row (Is T.the_row) (LL.makes T.the_type T'.the_plain 𝓛) c _ is $ move ! (1 ∷ 0 ∷ []) $ elem_put ! T.the_row full_share ys i c (vals_p c) b o l $
         closes_slice ! tt T.the_row ys zs (length-set ys i c) b o $
         assigns ! (of_opd ! (unit_lit !)) (from ! (stop !)) (init ! 18 refl (tt, tt)) $
         returns ! (look ! 18 refl) $ forget ! 6 refl $ forget ! 8 refl $ forget ! 10 refl $ forget ! 12 refl $ forget ! 14 refl $ forget ! 16 refl $ forget ! 18 refl $
@@ -97,7 +97,7 @@ module _ {M : Type 1} {𝓤 : Ura M} (𝓛 : Logic 𝓤) (mem : Memory → SProp
   open 𝓛 use {H}
 
   self-walks : (C : Calls 𝓤 H) (Λ : Loops 𝓤 H) → Walks 𝓛 self.ended stayed (WpFn 𝓤 H C Λ code.function) (self.clauses 𝓛 mem run)
-  self-walks C Λ = walked 𝓛 self.ended stayed (self.clauses 𝓛 mem run) (WpFn 𝓤 H C Λ code.function) (λ κs. (mut_slice_vals, (uint_vals w64, (valsP, tt)))) (λ κs. (mut_slice_Tells (named 0) κs.0 T.the_row, (uint_Tells w64, (LL.tells T.the_type T'.the_laws, tt))))
+  self-walks C Λ = walked 𝓛 self.ended stayed (self.clauses 𝓛 mem run) (WpFn 𝓤 H C Λ code.function) (λ κs. (mut_slice_vals, (uint_vals w64, (vals_p, tt)))) (λ κs. (mut_slice_Tells (named 0) κs.0 T.the_row, (uint_Tells w64, (LL.tells T.the_type T'.the_laws, tt))))
       (λ κs qs bounds a g are. via 𝓤 _ (fst∗ 𝓤 _ (emp 𝓤))
       (walk 𝓛 mem run κs.0 qs.0 a.0.ref_ptr.0 a.0.ref_ptr.1 a.0.ghost_name a.0.now a.1.0 a.1.1.0 are.1.0.1 are.1.1.0 C Λ are.0.0.1))
 

@@ -15,7 +15,7 @@ use Rattle.pending.specs.declared.Entry.TheVariants.{Check, Nothing, Refused}
 use Rattle.checks.specs.Records.{listed}
 use Rattle.checks.specs.declared.Pending.{Pending}
 use Rattle.checks.proofs.Listed.{none, refused-to-read, no-entry, entry-is}
-use Rattle.checks.proofs.Noting.{valsP}
+use Rattle.checks.proofs.Noting.{vals_p}
 use Rattle.refusal.specs.declared.Refusal.TheVariants.{Malformed}
 use Rattle.refusal.specs.contracts.Refusal as R
 use Rattle.refusal.proofs.Refusal.TheLaws as R'
@@ -32,22 +32,22 @@ use Rattle.checks.proofs.read.Code.Mir as code-mir
 abbrev stayed : Stays (self.ended).signature.params (self.ended).kept
 stayed = (stay_none_slice (0 ∷ []) tt (plain (λ _. K.the_row)) yes, (stay_none (λ _. usize) yes, (stay_none (λ _. usize) yes, tt)))
 
-abbrev valsN : Entry → List Val
-valsN = EL.vals N.the_type N'.the_laws
+abbrev vals_n : Entry → List Val
+vals_n = EL.vals N.the_type N'.the_laws
 
 malformed-is : Is R.the_row Malformed (EL.vals R.the_type R'.the_laws Malformed)
 malformed-is = EL.owes R.the_type R'.the_laws Malformed tt
 
-refused-is : Is N.the_row (Refused Malformed) (valsN (Refused Malformed))
+refused-is : Is N.the_row (Refused Malformed) (vals_n (Refused Malformed))
 refused-is = EL.owes N.the_type N'.the_laws (Refused Malformed) (malformed-is, tt)
 
-nothing_is : Is N.the_row Nothing (valsN Nothing)
+nothing_is : Is N.the_row Nothing (vals_n Nothing)
 nothing_is = EL.owes N.the_type N'.the_laws Nothing tt
 
 abbrev entry : Pending → Entry
 entry p = Check p.value p.bound p.pc
 
-entry_of : (p : Pending) → Is K.the_row p (valsP p) → Is N.the_row (entry p) (valsN (entry p))
+entry_of : (p : Pending) → Is K.the_row p (vals_p p) → Is N.the_row (entry p) (vals_n (entry p))
 entry_of p is = let fields = LL.owed K.the_type K'.the_laws p _ is in EL.owes N.the_type N'.the_laws (entry p) (fields.0, (fields.1.0, (fields.1.1.0, tt)))
 
 -- each local with its block, where a branch within a branch does not tell
@@ -119,13 +119,13 @@ module _ {M : Type 1} {𝓤 : Ura M} (𝓛 : Logic 𝓤) (at_mem : Memory → SP
         assigns ! (bin ! (load ! (from ! (fld ! refl (stop !))) (look_in ! 16 (sub ! 0 refl (whole !)))) (load ! (from ! (stop !)) (look ! 8 refl)) tt) (from ! (stop !)) (init ! 2 refl (tt, tt)) $
         rewrite ! 2 (λ (p : ℕ). ‵ (fat full_share ty_ptr l₈ 0 (vptr b p))) (sym (place_is 24 o i)) refl $
         move ! (21 ∷ []) $ fsplit ! $ fsplit ! $ move ! (1 ∷ []) $ fsplit ! $ move ! (24 ∷ []) $ split ! $ move ! (3 ∷ 0 ∷ []) $
-        looks_slice ! tt K.the_row (Is K.the_row) (shows 𝓛 K.the_row) valsP (LL.tells K.the_type K'.the_laws) (LL.copy K.the_type K'.the_copy 𝓛) ys b o (λ q'.
-        elem_out ! K.the_row (Is K.the_row) (shows 𝓛 K.the_row) valsP (LL.tells K.the_type K'.the_laws) q' ys i none b o l (λ is.
+        looks_slice ! tt K.the_row (Is K.the_row) (shows 𝓛 K.the_row) vals_p (LL.tells K.the_type K'.the_laws) (LL.copy K.the_type K'.the_copy 𝓛) ys b o (λ q'.
+        elem_out ! K.the_row (Is K.the_row) (shows 𝓛 K.the_row) vals_p (LL.tells K.the_type K'.the_laws) q' ys i none b o l (λ is.
         -- [list[at]; what it owns; the others; what shuts; the fractured borrow; true; res; list's fact; the numbers'; _9; …; _0; …]
         assigns ! (of_opd ! (load ! (from ! (hop ! (look ! 11 refl) (stop !))) (look_raw ! 0 refl))) (from ! (stop !)) (init ! 9 refl ((LL.lawful K.the_type K'.the_laws 𝓛).typed elem _ is).0) $
         assigns ! (of_opd ! (load ! (from ! (stop !)) (look ! 9 refl))) (from ! (stop !)) (init ! 19 refl ((LL.lawful K.the_type K'.the_laws 𝓛).typed elem _ is).0) $
         assigns ! (agg ! (and_then ! (lit ! tt) (and_then ! (load ! (from ! (fld ! refl (stop !))) (look_in ! 19 (sub ! 0 refl (whole !)))) (and_then ! (load ! (from ! (fld ! refl (stop !))) (look_in ! 19 (sub ! 1 refl (whole !)))) (and_then ! (load ! (from ! (fld ! refl (stop !))) (look_in ! 19 (sub ! 2 refl (whole !)))) (no_more !)))))) (from ! (stop !)) (init ! 27 refl ((EL.lawful N.the_type N'.the_laws 𝓛 tt).typed (entry elem) _ (entry_of elem is)).0) $
-        elem_back ! K.the_row q' ys i none (valsP elem) b o l $ shuts_slice ! tt K.the_row q' ys b o $
+        elem_back ! K.the_row q' ys i none (vals_p elem) b o l $ shuts_slice ! tt K.the_row q' ys b o $
         returns ! (look ! 24 refl) $ forget ! 6 refl $ forget ! 8 refl $ forget ! 12 refl $ forget ! 14 refl $ forget ! 16 refl $ forget ! 18 refl $ forget ! 20 refl $ forget ! 22 refl $ forget ! 24 refl $
         move ! (24 ∷ 25 ∷ []) $ free1 ! $ move ! (22 ∷ 23 ∷ []) $ free1 ! $ move ! (20 ∷ 21 ∷ []) $ free1 ! $ move ! (18 ∷ 19 ∷ []) $ free1 ! $ move ! (16 ∷ 17 ∷ []) $ free1 ! $ move ! (14 ∷ 15 ∷ []) $ free1 ! $ move ! (12 ∷ 13 ∷ []) $ free1 ! $ move ! (10 ∷ 11 ∷ []) $ free1 ! $ move ! (8 ∷ 9 ∷ []) $ free1 ! $ move ! (6 ∷ 7 ∷ []) $ free1 ! $ free0 ! $
         -- [the token; the fractured borrow; true; res; list's fact; the numbers']: put together as they were on entry

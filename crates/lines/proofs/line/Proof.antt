@@ -1,8 +1,8 @@
 use Rattle.std.proofs.Common.{drop, sym, ap, ◌∙◌, rules}
 use Rattle.opcode.specs.declared.Found.{Found}
 use Rattle.lines.specs.Lines.{named}
-use Rattle.lines.specs.Reader.{instructionRead}
-use Rattle.lines.specs.Code.{labelsIn, said_of}
+use Rattle.lines.specs.Reader.{instruction_read}
+use Rattle.lines.specs.Code.{labels_in, said_of}
 use Rattle.lines.proofs.Starts.{began, word-said}
 use Rattle.lines.proofs.line.Statement.{statement}
 use Rattle.lines.proofs.line.Tie as tie
@@ -31,10 +31,10 @@ enum-told-3 c = search rules
 returns : tie.Need-returns
 returns c =
     let a = c.before.before.before.before.before.before.before.before.before.before.args in
-    let look = labelsIn a.text.now a.table.now a.own in
+    let look = labels_in a.text.now a.table.now a.own in
     began a.s.now c.before.before.before.before.before.before.start_of_lem.result _
     c.before.before.before.before.before.before.start_of_lem.ensures c.before.before.before.before.key.given.1 look
-    ∙ ap (λ (f : Found). instructionRead f look (drop c.before.before.before.before.key.given.0.1.0 a.s.now))
+    ∙ ap (λ (f : Found). instruction_read f look (drop c.before.before.before.before.key.given.0.1.0 a.s.now))
     (sym c.before.before.named.ensures ∙ c.enum-told3.given.1)
 
 instruction-requires : tie.Need-instruction-requires
@@ -59,11 +59,11 @@ returns-3 c =
 returns-4 : tie.Need-returns-4
 returns-4 c =
     let a = c.before.before.before.before.before.before.before.before.before.before.before.before.before.args in
-    let look = labelsIn a.text.now a.table.now a.own in
+    let look = labels_in a.text.now a.table.now a.own in
     began a.s.now c.before.before.before.before.before.before.before.before.before.start_of_lem.result _
     c.before.before.before.before.before.before.before.before.before.start_of_lem.ensures
     c.before.before.before.before.before.before.before.key.given.1 look
-    ∙ ap (λ (f : Found). instructionRead f look (drop c.before.before.before.before.before.before.before.key.given.0.1.0 a.s.now))
+    ∙ ap (λ (f : Found). instruction_read f look (drop c.before.before.before.before.before.before.before.key.given.0.1.0 a.s.now))
     (sym c.before.before.before.before.before.named.ensures ∙ c.before.before.before.op.given.1)
     ∙ c.before.instruction.ensures
     ∙ word-said a.s.now c.before.instruction.result

@@ -1,6 +1,6 @@
 use Rattle.std.proofs.Common.{sym, ap, ◌∙◌, arith, rules}
 use borrow.Author.Tests.{not-true, not-false}
-use Rattle.labels.specs.Bytes.{isLetter}
+use Rattle.labels.specs.Bytes.{is_letter}
 use Rattle.labels.specs.declared.table.Name.{Name}
 use Rattle.sums.proofs.Terms.{at_byte}
 use Rattle.lines.proofs.Starts.{start-blank, start-other, start_word, start-more, start-label}
@@ -23,7 +23,7 @@ returns-2 : tie.Need-returns-2
 returns-2 c =
     start-other c.before.before.before.before.before.before.args.s.now c.before.before.before.before.skip.result
     c.before.before.before.before.skip.ensures c.before.before.before.if1.false
-    (sym (c.before.letter.ensures ∙ ap isLetter c.before.before.byte.ensures) ∙ not-true _ c.if2.true)
+    (sym (c.before.letter.ensures ∙ ap is_letter c.before.before.byte.ensures) ∙ not-true _ c.if2.true)
 
 name-at-requires : tie.Need-name-at-requires
 name-at-requires c κs = search rules
@@ -40,7 +40,7 @@ returns-3 c =
     c.before.before.before.before.before.before.before.before.skip.result
     c.before.before.before.before.before.before.before.before.skip.ensures
     c.before.before.before.before.before.before.before.if1.false
-    (sym (c.before.before.before.before.before.letter.ensures ∙ ap isLetter c.before.before.before.before.before.before.byte.ensures)
+    (sym (c.before.before.before.before.before.letter.ensures ∙ ap is_letter c.before.before.before.before.before.before.byte.ensures)
     ∙ not-false _ c.before.before.before.before.if2.false)
     c.before.before.before.name-at.result.after c.before.before.skip2.result
     (ap (λ (n : Name). n.after) c.before.before.before.name-at.ensures) c.before.before.skip2.ensures
@@ -66,7 +66,7 @@ returns-4 c =
     c.before.before.before.before.before.before.before.before.before.if1.false
     (sym
     (c.before.before.before.before.before.before.before.letter.ensures
-    ∙ ap isLetter c.before.before.before.before.before.before.before.before.byte.ensures)
+    ∙ ap is_letter c.before.before.before.before.before.before.before.before.byte.ensures)
     ∙ not-false _ c.before.before.before.before.before.before.if2.false)
     c.before.before.before.before.before.name-at.result.after c.before.before.before.before.skip2.result
     (ap (λ (n : Name). n.after) c.before.before.before.before.before.name-at.ensures) c.before.before.before.before.skip2.ensures
@@ -81,7 +81,7 @@ returns-5 c =
     c.before.before.before.before.before.before.before.before.before.if1.false
     (sym
     (c.before.before.before.before.before.before.before.letter.ensures
-    ∙ ap isLetter c.before.before.before.before.before.before.before.before.byte.ensures)
+    ∙ ap is_letter c.before.before.before.before.before.before.before.before.byte.ensures)
     ∙ not-false _ c.before.before.before.before.before.before.if2.false)
     c.before.before.before.before.before.name-at.result.after c.before.before.before.before.skip2.result
     (ap (λ (n : Name). n.after) c.before.before.before.before.before.name-at.ensures) c.before.before.before.before.skip2.ensures

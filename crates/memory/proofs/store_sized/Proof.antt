@@ -1,5 +1,5 @@
 use Rattle.memory.proofs.Accesses.{stored-fits}
-use Rattle.memory.specs.Memory.{onStored}
+use Rattle.memory.specs.Memory.{on_stored}
 use mathlib.Core.Path.{sym, ◌∙◌}
 use borrow.Author.Rules.{rules}
 use Rattle.memory.proofs.store_sized.Statement.{statement}
@@ -21,11 +21,11 @@ same_length : tie.Need-same-length
 same_length c = search rules
 
 returns : tie.Need-returns
-unfolding onStored
+unfolding on_stored
 returns c = let e = sym c.before.before.before.before.before.before.storable.ensures ∙ c.before.before.before.before.enum_told.given.1 in (sym e, rw e c.before.before.write.ensures)
 
 returns-2 : tie.Need-returns-2
-unfolding onStored
+unfolding on_stored
 returns-2 c = let e = sym c.before.before.before.storable.ensures ∙ c.before.r.given.1 in (sym e, rw e)
 
 pub store-sized-spec : {M : Type 1} → statement M

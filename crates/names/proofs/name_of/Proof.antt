@@ -1,7 +1,7 @@
 use Rattle.names.proofs.Fifty.{numbered, key-at}
-use Rattle.names.specs.Names.{nameKey}
+use Rattle.names.specs.Names.{name_key}
 use Rattle.opcode.specs.Opcodes.{all}
-use Rattle.labels.specs.Bytes.{keyFrom}
+use Rattle.labels.specs.Bytes.{key_from}
 use lib.ListN.{get_or}
 use native.Mathlib.Omega.{arith}
 use Prim.Native.Nat.{ℕ, ◌-◌}
@@ -27,8 +27,8 @@ array-read-result : tie.Need-array-read-result
 array-read-result c = omega (arith, numbered c.before.before.args.op, c.place.ensures, c.before.opcode-number.ensures)
 
 returns : tie.Need-returns
-unfolding all keyFrom
-returns c = ap (λ (n : ℕ). get_or (map nameKey all) (n - 1) 0) (c.place.ensures ∙ c.before.opcode-number.ensures) ∙ key-at c.before.before.args.op
+unfolding all key_from
+returns c = ap (λ (n : ℕ). get_or (map name_key all) (n - 1) 0) (c.place.ensures ∙ c.before.opcode-number.ensures) ∙ key-at c.before.before.args.op
 
 pub name-of-spec : {M : Type 1} → statement M
 name-of-spec =

@@ -1,5 +1,5 @@
 use Rattle.opcode.proofs.Numberings.{valid, last}
-use Rattle.opcode.specs.Opcodes.{opcodeNumber, firstWith, all}
+use Rattle.opcode.specs.Opcodes.{opcode_number, first_with, all}
 use Rattle.opcode.specs.declared.Opcode.TheVariants as O
 use mathlib.Core.Path.{◌∙◌}
 use lib.ListN.{take}
@@ -7,204 +7,204 @@ use Rattle.opcode.proofs.opcode_at.Statement.{statement}
 use Rattle.opcode.proofs.opcode_at.Tie as tie
 
 returns : tie.Need-returns
-unfolding firstWith all
+unfolding first_with all
 returns c = rw c.match.keys1
 
 returns-2 : tie.Need-returns-2
-unfolding firstWith all
+unfolding first_with all
 returns-2 c = rw c.match.keys2
 
 returns-3 : tie.Need-returns-3
-unfolding firstWith all
+unfolding first_with all
 returns-3 c = rw c.match.keys3
 
 returns-4 : tie.Need-returns-4
-unfolding firstWith all
+unfolding first_with all
 returns-4 c = rw c.match.keys4
 
 returns-5 : tie.Need-returns-5
-unfolding firstWith all
+unfolding first_with all
 returns-5 c = rw c.match.keys5
 
 returns-6 : tie.Need-returns-6
-unfolding firstWith all
+unfolding first_with all
 returns-6 c = rw c.match.keys6
 
 returns-7 : tie.Need-returns-7
-unfolding firstWith all
+unfolding first_with all
 returns-7 c = rw c.match.keys7
 
 returns-8 : tie.Need-returns-8
-unfolding firstWith all
+unfolding first_with all
 returns-8 c = rw c.match.keys8
 
 returns-9 : tie.Need-returns-9
-unfolding firstWith all
+unfolding first_with all
 returns-9 c = rw c.match.keys9
 
 returns-10 : tie.Need-returns-10
-unfolding firstWith all
+unfolding first_with all
 returns-10 c = rw c.match.keys10
 
 returns-11 : tie.Need-returns-11
-unfolding firstWith all
+unfolding first_with all
 returns-11 c = rw c.match.keys11
 
 returns-12 : tie.Need-returns-12
-unfolding firstWith all
+unfolding first_with all
 returns-12 c = rw c.match.keys12
 
 returns-13 : tie.Need-returns-13
-unfolding firstWith all
+unfolding first_with all
 returns-13 c = rw c.match.keys13
 
 returns-14 : tie.Need-returns-14
-unfolding firstWith all
+unfolding first_with all
 returns-14 c = rw c.match.keys14
 
 returns-15 : tie.Need-returns-15
-unfolding firstWith all
+unfolding first_with all
 returns-15 c = rw c.match.keys15
 
 returns-16 : tie.Need-returns-16
-unfolding firstWith all
+unfolding first_with all
 returns-16 c = rw c.match.keys16
 
 returns-17 : tie.Need-returns-17
-unfolding firstWith all
+unfolding first_with all
 returns-17 c = rw c.match.keys17
 
 returns-18 : tie.Need-returns-18
-unfolding firstWith all
+unfolding first_with all
 returns-18 c = rw c.match.keys18
 
 returns-19 : tie.Need-returns-19
-unfolding firstWith all
+unfolding first_with all
 returns-19 c = rw c.match.keys19
 
 returns-20 : tie.Need-returns-20
-unfolding firstWith all
+unfolding first_with all
 returns-20 c = rw c.match.keys20
 
 returns-21 : tie.Need-returns-21
-unfolding firstWith all
+unfolding first_with all
 returns-21 c = rw c.match.keys21
 
 returns-22 : tie.Need-returns-22
-unfolding firstWith all
+unfolding first_with all
 returns-22 c = rw c.match.keys22
 
 returns-23 : tie.Need-returns-23
-unfolding firstWith all
+unfolding first_with all
 returns-23 c = rw c.match.keys23
 
 returns-24 : tie.Need-returns-24
-unfolding firstWith all
+unfolding first_with all
 returns-24 c = rw c.match.keys24
 
 returns-25 : tie.Need-returns-25
-unfolding firstWith all
+unfolding first_with all
 returns-25 c = rw c.match.keys25
 
 returns-26 : tie.Need-returns-26
-unfolding firstWith all
+unfolding first_with all
 returns-26 c = rw c.match.keys26
 
 returns-27 : tie.Need-returns-27
-unfolding firstWith all
+unfolding first_with all
 returns-27 c = rw c.match.keys27
 
 returns-28 : tie.Need-returns-28
-unfolding firstWith all
+unfolding first_with all
 returns-28 c = rw c.match.keys28
 
 returns-29 : tie.Need-returns-29
-unfolding firstWith all
+unfolding first_with all
 returns-29 c = rw c.match.keys29
 
 returns-30 : tie.Need-returns-30
-unfolding firstWith all
+unfolding first_with all
 returns-30 c = rw c.match.keys30
 
 returns-31 : tie.Need-returns-31
-unfolding firstWith all
+unfolding first_with all
 returns-31 c = rw c.match.keys31
 
 returns-32 : tie.Need-returns-32
-unfolding firstWith all
+unfolding first_with all
 returns-32 c = rw c.match.keys32
 
 returns-33 : tie.Need-returns-33
-unfolding firstWith all
+unfolding first_with all
 returns-33 c = rw c.match.keys33
 
 returns-34 : tie.Need-returns-34
-unfolding firstWith all
+unfolding first_with all
 returns-34 c = rw c.match.keys34
 
 returns-35 : tie.Need-returns-35
-unfolding firstWith all
+unfolding first_with all
 returns-35 c = rw c.match.keys35
 
 returns-36 : tie.Need-returns-36
-unfolding firstWith all
+unfolding first_with all
 returns-36 c = rw c.match.keys36
 
 returns-37 : tie.Need-returns-37
-unfolding firstWith all
+unfolding first_with all
 returns-37 c = rw c.match.keys37
 
 returns-38 : tie.Need-returns-38
-unfolding firstWith all
+unfolding first_with all
 returns-38 c = rw c.match.keys38
 
 returns-39 : tie.Need-returns-39
-unfolding firstWith all
+unfolding first_with all
 returns-39 c = rw c.match.keys39
 
 returns-40 : tie.Need-returns-40
-unfolding firstWith all
+unfolding first_with all
 returns-40 c = rw c.match.keys40
 
 returns-41 : tie.Need-returns-41
-unfolding firstWith all
+unfolding first_with all
 returns-41 c = rw c.match.keys41
 
 returns-42 : tie.Need-returns-42
-unfolding firstWith all
+unfolding first_with all
 returns-42 c = rw c.match.keys42
 
 returns-43 : tie.Need-returns-43
-unfolding firstWith all
+unfolding first_with all
 returns-43 c = rw c.match.keys43
 
 returns-44 : tie.Need-returns-44
-unfolding firstWith all
+unfolding first_with all
 returns-44 c = rw c.match.keys44
 
 returns-45 : tie.Need-returns-45
-unfolding firstWith all
+unfolding first_with all
 returns-45 c = rw c.match.keys45
 
 returns-46 : tie.Need-returns-46
-unfolding firstWith all
+unfolding first_with all
 returns-46 c = rw c.match.keys46
 
 returns-47 : tie.Need-returns-47
-unfolding firstWith all
+unfolding first_with all
 returns-47 c = rw c.match.keys47
 
 returns-48 : tie.Need-returns-48
-unfolding firstWith all
+unfolding first_with all
 returns-48 c = rw c.match.keys48
 
 returns-49 : tie.Need-returns-49
-unfolding firstWith all
+unfolding first_with all
 returns-49 c = rw c.match.keys49
 
 returns-50 : tie.Need-returns-50
 unfolding all
-returns-50 c = last opcodeNumber (take 49 all) O.Ebreak c.before.args.n c.match.rest (valid c.before.args.n ∙ c.before.requires)
+returns-50 c = last opcode_number (take 49 all) O.Ebreak c.before.args.n c.match.rest (valid c.before.args.n ∙ c.before.requires)
 
 pub opcode-at-spec : {M : Type 1} → statement M
 opcode-at-spec =

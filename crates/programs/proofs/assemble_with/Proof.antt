@@ -1,6 +1,6 @@
 use Rattle.programs.proofs.Ends.{left-short, left-bad, left-small, words-fit, left-done}
-use Rattle.programs.specs.Promise.{leftCleared}
-use Rattle.told.specs.Told.{doneTold}
+use Rattle.programs.specs.Promise.{left_cleared}
+use Rattle.told.specs.Told.{done_told}
 use Rattle.told.specs.declared.Told.{Told}
 use native.Mathlib.Omega.{arith}
 use Prim.Native.Nat.{ℕ, ◌*◌}
@@ -29,7 +29,7 @@ returns : tie.Need-returns
 returns c =
     let a = c.before.before.before.before.before.before.before.before.before.before.args in
     let n = c.before.before.before.before.before.note-labels.ensures in (
-      ap (λ (t : Told). leftCleared t a.words.now a.table.now) c.refused.ensures
+      ap (λ (t : Told). left_cleared t a.words.now a.table.now) c.refused.ensures
           ∙ left-short a.text.now a.words.now a.table.now _ _ n.0 c.before.enum_told.given.1 n.1,
       n.1,
     )
@@ -60,7 +60,7 @@ returns-2 c =
     let a =
     c.before.before.before.before.before.before.before.before.before.before.before.before.before.before.before.before.before.before.args in
     let n = c.before.before.before.before.before.before.before.before.before.before.before.before.before.note-labels.ensures in (
-      ap (λ (t : Told). leftCleared t a.words.now a.table.now) c.refused3.ensures
+      ap (λ (t : Told). left_cleared t a.words.now a.table.now) c.refused3.ensures
           ∙ left-small a.text.now a.words.now a.table.now _ _ _ n.0
           c.before.before.before.before.before.before.before.before.before.second.given.1 n.1 _
           (sym c.before.before.before.before.before.before.check.ensures ∙ c.before.before.before.before.n.given.1)
@@ -91,7 +91,7 @@ returns-3 : tie.Need-returns-3
 returns-3 c =
     let a = c.before.before.before.before.before.before.before.before.before.before.before.before.before.before.before.before.args in
     let n = c.before.before.before.before.before.before.before.before.before.before.before.note-labels.ensures in (
-      ap (λ (t : Told). leftCleared t a.words.now a.table.now) c.refused2.ensures
+      ap (λ (t : Told). left_cleared t a.words.now a.table.now) c.refused2.ensures
           ∙ left-bad a.text.now a.words.now a.table.now _ _ _ n.0
           c.before.before.before.before.before.before.before.second.given.1 n.1 _
           (sym c.before.before.before.before.check.ensures ∙ c.before.before.line.given.1),
@@ -110,9 +110,9 @@ returns-4 c =
     c.before.before.before.before.before.before.before.before.before.before.before.before.before.before.before.before.before.before.before.before.before.before.before.args in
     let n =
     c.before.before.before.before.before.before.before.before.before.before.before.before.before.before.before.before.before.before.note-labels.ensures in (
-      ap (λ (t : Told). leftCleared t c.before.before.before.write-words.new.1.1.0 a.table.now) c.done.ensures
+      ap (λ (t : Told). left_cleared t c.before.before.before.write-words.new.1.1.0 a.table.now) c.done.ensures
           ∙ ap
-          (λ (v : List ℕ). leftCleared (doneTold (4 * c.before.before.before.before.before.before.before.before.before.n.given.0.0)) v
+          (λ (v : List ℕ). left_cleared (done_told (4 * c.before.before.before.before.before.before.before.before.before.n.given.0.0)) v
           a.table.now)
           c.before.before.before.write-words.ensures
           ∙ left-done a.text.now a.words.now a.table.now _ _ _ n.0

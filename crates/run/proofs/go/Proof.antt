@@ -1,6 +1,6 @@
 use Rattle.std.proofs.Common.{◌≡◌, ◌+◌, ◌^◌, ◌<◌, length, sym, refl, ◌∙◌}
 use Rattle.pending.specs.Pending.{lists}
-use Rattle.run.specs.Legs.{comesTo}
+use Rattle.run.specs.Legs.{comes_to}
 use Rattle.run.proofs.Loops.{ahead, fits, turned, falls, ended}
 use Rattle.run.proofs.go.Statement.{statement}
 use Rattle.run.proofs.go.Tie as tie
@@ -8,7 +8,7 @@ use Rattle.run.proofs.go.Tie as tie
 abbrev invariant-loop : tie.invariant-loop
 invariant-loop m₀ values₀ bounds₀ pcs₀ count r₀ listed₀ m values bounds pcs r listed =
     (length m ≡ length m₀) × (length values ≡ length values₀) × (length bounds ≡ length bounds₀) × (length pcs ≡ length pcs₀)
-    × (r.steps + r.left < 2 ^ 64) × (comesTo r m (lists listed values bounds pcs) ≡ comesTo r₀ m₀ (lists listed₀ values₀ bounds₀ pcs₀))
+    × (r.steps + r.left < 2 ^ 64) × (comes_to r m (lists listed values bounds pcs) ≡ comes_to r₀ m₀ (lists listed₀ values₀ bounds₀ pcs₀))
 
 abbrev decreases-loop : tie.decreases-loop
 decreases-loop m₀ values₀ bounds₀ pcs₀ count r₀ listed₀ m values bounds pcs r listed = ahead r

@@ -4,9 +4,9 @@ use Prim.Native.Nat.{ℕ, suc, ◌+◌, ◌-◌, ◌≤◌, ◌<◌}
 use native.Mathlib.Omega.{arith}
 use lib.ListN.{length, drop}
 use borrow.Author.Rules.{rules}
-use Rattle.labels.specs.Bytes.{isLetter, isSpace}
-use Rattle.sums.specs.Reader.{sumRead, termRead, moreBy}
-use Rattle.sums.specs.Code.{Past, lookIn, of64, valueRead, readTo}
+use Rattle.labels.specs.Bytes.{is_letter, is_space}
+use Rattle.sums.specs.Reader.{sum_read, term_read, more_by}
+use Rattle.sums.specs.Code.{Past, look_in, of64, value_read, read_to}
 use Rattle.sums.proofs.Terms.{sooner, at_byte, term-name, term-number, term-flat, term-deep, more-stop, more-sign, turn-bad, turn-over, turn_on, again, sum-bad, sum_first}
 use borrow.Fn.Kinds.{In}
 use borrow.Fn.PlainCycle.{Measures, is, falls, and}
@@ -47,7 +47,7 @@ term-below t = and 3 term-kinds.ps (falls 3 term-kinds.ps ◌<◌ μ-term t) ter
 
 abbrev sum-Inv-loop : sum-lts.invariant-loop
 sum-Inv-loop s text table base at depth v0 n0 v₀ n₀ v n =
-    (at < n) × ((n ≤ length s) × ((f : ℕ) × ((length s - n ≤ f) × (sumRead depth (lookIn text table base) (drop at s) ≡ moreBy (termRead depth (lookIn text table base)) (suc f) (of64 v) (drop n s)))))
+    (at < n) × ((n ≤ length s) × ((f : ℕ) × ((length s - n ≤ f) × (sum_read depth (look_in text table base) (drop at s) ≡ more_by (term_read depth (look_in text table base)) (suc f) (of64 v) (drop n s)))))
 
 abbrev sum-μ-loop : sum-lts.decreases-loop
 sum-μ-loop s text table base at depth v0 n0 v₀ n₀ v n = length s - n
@@ -100,7 +100,7 @@ sum-returns : (t : ℕ) → sum-lts.Need-returns (
 ) (sum-at t) sum.Post sum-Inv-loop sum-μ-loop
 sum-returns t c =
     let args = c.before.before.before.before.before.before.args in
-    (sum-bad _ _ args.s.now args.at (c.before.before.term.ensures.0 ∙ ap (readTo args.s.now) c.enum_told.given.1), tt)
+    (sum-bad _ _ args.s.now args.at (c.before.before.term.ensures.0 ∙ ap (read_to args.s.now) c.enum_told.given.1), tt)
 
 sum-skip-requires : (t : ℕ) → sum-lts.Need-skip-requires (
   term-below t,
@@ -128,13 +128,13 @@ sum-loop-holds t c =
     let args = c.before.before.before.before.before.before.before.before.args in
     let s = args.s.now in
     let past = subst (Past s args.at) c.before.before.first.given.1 c.before.before.before.before.term.ensures.1 in
-    let on = (passed isSpace _ _ _ c.skip.ensures).on in (
+    let on = (passed is_space _ _ _ c.skip.ensures).on in (
       omega arith,
       (
-        (passed isSpace _ _ _ c.skip.ensures).within past.1,
+        (passed is_space _ _ _ c.skip.ensures).within past.1,
         sum_first _ _ s args.at c.before.before.first.given.0.0 c.before.before.first.given.0.1.0 _
-            (c.before.before.before.before.term.ensures.0 ∙ ap (readTo s) c.before.before.first.given.1)
-            (passed isSpace _ _ _ c.skip.ensures) (omega arith),
+            (c.before.before.before.before.term.ensures.0 ∙ ap (read_to s) c.before.before.first.given.1)
+            (passed is_space _ _ _ c.skip.ensures) (omega arith),
       ),
     )
 
@@ -183,7 +183,7 @@ sum-add-skip t c =
     let args = c.before.before.before.before.before.before.before.before.before.before.before.args in
     omega (
       arith,
-      more-sign (termRead args.depth (lookIn args.text.now args.table.now args.base)) 0 (of64 0) args.s.now
+      more-sign (term_read args.depth (look_in args.text.now args.table.now args.base)) 0 (of64 0) args.s.now
           c.before.before.loop.n (λ z. c.if1.false (c.before.sign.ensures ∙ z)),
     )
 
@@ -252,8 +252,8 @@ sum-returns-3 t c =
       inv.1.1.1.1
           ∙ turn-bad _ args.s.now _ loop.v loop.n _ c.before.before.before.skip2.result
           c.before.before.before.before.before.sign.ensures c.before.before.before.before.if1.false
-          (passed isSpace _ _ _ c.before.before.before.skip2.ensures)
-          (c.before.before.term2.ensures.0 ∙ ap (readTo args.s.now) c.enum-told2.given.1),
+          (passed is_space _ _ _ c.before.before.before.skip2.ensures)
+          (c.before.before.term2.ensures.0 ∙ ap (read_to args.s.now) c.enum-told2.given.1),
       tt,
     )
 
@@ -313,10 +313,10 @@ sum-returns-4 t c =
           c.before.before.before.before.next.given.0.0 c.before.before.before.before.next.given.0.1.0
           c.before.before.before.before.before.before.before.before.before.sign.ensures
           c.before.before.before.before.before.before.before.before.if1.false
-          (passed isSpace _ _ _ c.before.before.before.before.before.before.before.skip2.ensures)
+          (passed is_space _ _ _ c.before.before.before.before.before.before.before.skip2.ensures)
           (c.before.before.before.before.before.before.term2.ensures.0
-          ∙ ap (readTo args.s.now) c.before.before.before.before.next.given.1)
-          (c.before.before.joined.ensures ∙ ap valueRead c.enum-told3.given.1),
+          ∙ ap (read_to args.s.now) c.before.before.before.before.next.given.1)
+          (c.before.before.joined.ensures ∙ ap value_read c.enum-told3.given.1),
       tt,
     )
 
@@ -349,8 +349,8 @@ sum-loop-less t c =
     subst (Past s c.before.before.before.before.before.before.before.before.before.skip2.result)
     c.before.before.before.before.before.before.next.given.1
     c.before.before.before.before.before.before.before.before.term2.ensures.1 in
-    let from = (passed isSpace _ _ _ c.before.before.before.before.before.before.before.before.before.skip2.ensures).on in
-    let on = (passed isSpace _ _ _ c.skip3.ensures).on in let within = (passed isSpace _ _ _ c.skip3.ensures).within past.1 in omega arith
+    let from = (passed is_space _ _ _ c.before.before.before.before.before.before.before.before.before.skip2.ensures).on in
+    let on = (passed is_space _ _ _ c.skip3.ensures).on in let within = (passed is_space _ _ _ c.skip3.ensures).within past.1 in omega arith
 
 sum-loop-again : (t : ℕ) → sum-lts.Need-loop-preserved (
   term-below t,
@@ -371,9 +371,9 @@ sum-loop-again t c =
     subst (Past s c.before.before.before.before.before.before.before.before.before.skip2.result)
     c.before.before.before.before.before.before.next.given.1
     c.before.before.before.before.before.before.before.before.term2.ensures.1 in
-    let from = (passed isSpace _ _ _ c.before.before.before.before.before.before.before.before.before.skip2.ensures).on in
-    let on = (passed isSpace _ _ _ c.skip3.ensures).on in
-    let within = (passed isSpace _ _ _ c.skip3.ensures).within past.1 in (
+    let from = (passed is_space _ _ _ c.before.before.before.before.before.before.before.before.before.skip2.ensures).on in
+    let on = (passed is_space _ _ _ c.skip3.ensures).on in
+    let within = (passed is_space _ _ _ c.skip3.ensures).within past.1 in (
       omega arith,
       (
         within,
@@ -384,11 +384,11 @@ sum-loop-again t c =
             c.before.before.before.before.before.before.next.given.0.1.0 c.before.before.both.given.0.0 c.skip3.result
             c.before.before.before.before.before.before.before.before.before.before.before.sign.ensures
             c.before.before.before.before.before.before.before.before.before.before.if1.false
-            (passed isSpace _ _ _ c.before.before.before.before.before.before.before.before.before.skip2.ensures)
+            (passed is_space _ _ _ c.before.before.before.before.before.before.before.before.before.skip2.ensures)
             (c.before.before.before.before.before.before.before.before.term2.ensures.0
-            ∙ ap (readTo s) c.before.before.before.before.before.before.next.given.1)
-            (c.before.before.before.before.joined.ensures ∙ ap valueRead c.before.before.both.given.1)
-            (passed isSpace _ _ _ c.skip3.ensures)),
+            ∙ ap (read_to s) c.before.before.before.before.before.before.next.given.1)
+            (c.before.before.before.before.joined.ensures ∙ ap value_read c.before.before.both.given.1)
+            (passed is_space _ _ _ c.skip3.ensures)),
       ),
     )
 
@@ -523,7 +523,7 @@ term-closed-requires : (t : ℕ) → term-lts.Need-closed-requires (
 term-closed-requires t c κs =
     sooner c.before.before.before.before.before.before.before.before.args.s.now
     c.before.before.before.before.before.before.before.before.args.at c.before.skip.result c.sum.result
-    (let o = (passed isSpace _ _ _ c.before.skip.ensures).on in omega arith) c.sum.ensures.1
+    (let o = (passed is_space _ _ _ c.before.skip.ensures).on in omega arith) c.sum.ensures.1
 
 term-returns-2 : (t : ℕ) → term-lts.Need-returns-2 (
   byte-Reads.Asked,
@@ -545,7 +545,7 @@ term-returns-2 t c =
     let args = c.before.before.before.before.before.before.before.before.before.args in (
       term-deep args.s.now args.at _ _ c.before.before.skip.result c.before.sum.result
           (sym c.before.before.before.before.before.byte.ensures ∙ c.before.before.before.before.if1.true)
-          c.before.before.before.if2.false (passed isSpace _ _ _ c.before.before.skip.ensures) c.before.sum.ensures.0
+          c.before.before.before.if2.false (passed is_space _ _ _ c.before.before.skip.ensures) c.before.sum.ensures.0
           ∙ c.closed.ensures.0,
       c.closed.ensures.1,
     )
@@ -584,7 +584,7 @@ term-named-requires : (t : ℕ) → term-lts.Need-named-requires (
   number-reads.Asked,
   number-reads.Learnt,
 ) (term-at t) term.Post
-term-named-requires t c κs = sym (c.before.letter.ensures ∙ ap isLetter c.before.before.before.byte.ensures) ∙ c.if3.true
+term-named-requires t c κs = sym (c.before.letter.ensures ∙ ap is_letter c.before.before.before.byte.ensures) ∙ c.if3.true
 
 term-returns-3 : (t : ℕ) → term-lts.Need-returns-3 (
   byte-Reads.Asked,
@@ -605,7 +605,7 @@ term-returns-3 : (t : ℕ) → term-lts.Need-returns-3 (
 term-returns-3 t c =
     let args = c.before.before.before.before.before.before.before.before.args in (
       term-name args.s.now args.at _ _
-          (sym (c.before.before.letter.ensures ∙ ap isLetter c.before.before.before.before.byte.ensures) ∙ c.before.if3.true)
+          (sym (c.before.before.letter.ensures ∙ ap is_letter c.before.before.before.before.byte.ensures) ∙ c.before.if3.true)
           (λ z. c.before.before.before.if1.false (c.before.before.before.before.byte.ensures ∙ z))
           ∙ c.named.ensures.0,
       c.named.ensures.1,
@@ -648,7 +648,7 @@ term-returns-4 : (t : ℕ) → term-lts.Need-returns-4 (
 term-returns-4 t c =
     let args = c.before.before.before.before.before.before.before.before.args in (
       term-number args.s.now args.at _ _
-          (sym (c.before.before.letter.ensures ∙ ap isLetter c.before.before.before.before.byte.ensures) ∙ c.before.if3.false)
+          (sym (c.before.before.letter.ensures ∙ ap is_letter c.before.before.before.before.byte.ensures) ∙ c.before.if3.false)
           (λ z. c.before.before.before.if1.false (c.before.before.before.before.byte.ensures ∙ z))
           ∙ c.number.ensures.0,
       c.number.ensures.1,

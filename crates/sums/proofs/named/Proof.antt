@@ -1,9 +1,9 @@
 use mathlib.Core.Path.{sym, ◌∙◌, ap}
 use Rattle.sums.specs.Reader.{got}
-use Rattle.sums.specs.Code.{valueRead, of64}
+use Rattle.sums.specs.Code.{value_read, of64}
 use Rattle.sums.proofs.Terms.{found_none, found_at, name-none, name-is, name-past}
 use Rattle.labels.proofs.Steps.{passed}
-use Rattle.labels.specs.Bytes.{isPart}
+use Rattle.labels.specs.Bytes.{is_part}
 use borrow.Author.Rules.{rules}
 use Rattle.sums.proofs.named.Statement.{statement}
 use Rattle.sums.proofs.named.Tie as tie
@@ -38,7 +38,7 @@ returns-2 c =
     let args = c.before.before.before.before.before.before.before.before.before.before.args in (
       name-is args.text.now args.table.now args.base _ _ _
           (found_at _ _ _ _ (sym c.before.before.before.before.before.before.find.ensures ∙ c.before.before.before.before.i.given.1)).0
-          (c.before.before.distance.ensures ∙ ap valueRead c.enum-told2.given.1),
+          (c.before.before.distance.ensures ∙ ap value_read c.enum-told2.given.1),
       tt,
     )
 
@@ -48,9 +48,9 @@ returns-3 c =
     let f =
     found_at _ _ _ _
     (sym c.before.before.before.before.before.before.before.find.ensures ∙ c.before.before.before.before.before.i.given.1) in
-    let p = passed isPart args.s.now args.at _ f.1 in (
+    let p = passed is_part args.s.now args.at _ f.1 in (
       name-is args.text.now args.table.now args.base _ _ _ f.0
-          (c.before.before.before.distance.ensures ∙ ap valueRead c.before.v.given.1)
+          (c.before.before.before.distance.ensures ∙ ap value_read c.before.v.given.1)
           ∙ ap (got (of64 c.before.v.given.0.0)) (sym p.rest),
       name-past args.s.now args.at _ c.before.before.before.before.before.before.before.before.before.before.before.requires p,
     )

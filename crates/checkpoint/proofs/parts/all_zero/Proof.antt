@@ -1,5 +1,5 @@
 use Rattle.checkpoint.proofs.Turns.{zero-end, chunk-stop, chunk-more}
-use Rattle.checkpoint.specs.Image.{allZero}
+use Rattle.checkpoint.specs.Image.{all_zero}
 use borrow.Author.Tests.{not-true, not-false}
 use Prim.Native.Nat.{◌%◌}
 use borrow.Author.Rules.{rules}
@@ -12,7 +12,7 @@ use Rattle.checkpoint.proofs.parts.all_zero.Statement.{statement}
 use Rattle.checkpoint.proofs.parts.all_zero.Tie as tie
 
 abbrev invariant-loop : tie.invariant-loop
-invariant-loop bytes at n i₀ i = (i ≤ n) × (i % 64 ≡ 0) × (allZero (take (n - i) (drop (at + i) bytes)) ≡ allZero (take n (drop at bytes)))
+invariant-loop bytes at n i₀ i = (i ≤ n) × (i % 64 ≡ 0) × (all_zero (take (n - i) (drop (at + i) bytes)) ≡ all_zero (take n (drop at bytes)))
 
 abbrev decreases-loop : tie.decreases-loop
 decreases-loop bytes at n i₀ i = n - i

@@ -6,13 +6,13 @@ use native.Mathlib.Omega.{arith}
 use lib.Dec.{eqb}
 use lib.ListN.{take, drop}
 use borrow.Author.Rules.{rules}
-use Rattle.checkpoint.specs.Image.{allZero}
+use Rattle.checkpoint.specs.Image.{all_zero}
 use Rattle.checkpoint.proofs.Turns.{found-more, found-end}
 use Rattle.checkpoint.proofs.parts.chunk_zero.Statement.{statement}
 use Rattle.checkpoint.proofs.parts.chunk_zero.Tie as tie
 
 abbrev invariant-loop : tie.invariant-loop
-invariant-loop bytes at found₀ i₀ found i = (i ≤ 64) × ((eqb found 0 && allZero (take (64 - i) (drop (at + i) bytes))) ≡ allZero (take 64 (drop at bytes)))
+invariant-loop bytes at found₀ i₀ found i = (i ≤ 64) × ((eqb found 0 && all_zero (take (64 - i) (drop (at + i) bytes))) ≡ all_zero (take 64 (drop at bytes)))
 
 abbrev decreases-loop : tie.decreases-loop
 decreases-loop bytes at found₀ i₀ found i = 64 - i

@@ -1,5 +1,5 @@
 use Rattle.checkpoint.proofs.Steps.{fill_stop, fill_more, fill_end}
-use Rattle.checkpoint.specs.Tests.{fillPages}
+use Rattle.checkpoint.specs.Tests.{fill_pages}
 use Rattle.checkpoint.specs.Image.{PAGE_BYTES}
 use borrow.Author.Rules.{rules}
 use lib.ListN.{length, drop}
@@ -12,8 +12,8 @@ use Rattle.checkpoint.proofs.reading.fill_pages.Tie as tie
 
 abbrev invariant-loop : tie.invariant-loop
 invariant-loop image start pages place₀ p₀ place p =
-    let rest = fillPages (pages - p) (PAGE_BYTES * p) (drop place image) in
-    (p ≤ pages) × (place ≤ length image) × (rest ≡ fillPages pages 0 (drop start image))
+    let rest = fill_pages (pages - p) (PAGE_BYTES * p) (drop place image) in
+    (p ≤ pages) × (place ≤ length image) × (rest ≡ fill_pages pages 0 (drop start image))
 
 abbrev decreases-loop : tie.decreases-loop
 decreases-loop image start pages place₀ p₀ place p = pages - p

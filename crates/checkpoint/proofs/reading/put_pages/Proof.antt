@@ -1,6 +1,6 @@
 use Rattle.checkpoint.proofs.Steps.{memory-more, memory-end}
 use Rattle.checkpoint.proofs.Pages.{memory-long}
-use Rattle.checkpoint.specs.Tests.{memoryFrom}
+use Rattle.checkpoint.specs.Tests.{memory_from}
 use Rattle.checkpoint.specs.Image.{PAGE_BYTES}
 use Rattle.layout.proofs.Rows.{sets-all}
 use borrow.Author.Rules.{rules}
@@ -15,8 +15,8 @@ use Rattle.checkpoint.proofs.reading.put_pages.Tie as tie
 
 abbrev invariant-loop : tie.invariant-loop
 invariant-loop memory₀ pages image start place₀ p₀ memory place p =
-    let rest = memoryFrom (pages - p) (PAGE_BYTES * p) (drop place image) in
-    let all = memoryFrom pages 0 (drop start image) in
+    let rest = memory_from (pages - p) (PAGE_BYTES * p) (drop place image) in
+    let all = memory_from pages 0 (drop start image) in
     (length memory ≡ length memory₀) × (p ≤ pages) × (place ≤ length image) × (sets memory (PAGE_BYTES * p) rest ≡ sets memory₀ 0 all)
 
 abbrev decreases-loop : tie.decreases-loop

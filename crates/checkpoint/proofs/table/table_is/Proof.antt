@@ -1,7 +1,7 @@
 use Rattle.checkpoint.proofs.Steps.{front-stored}
 use Rattle.checkpoint.proofs.Images.{length-table}
 use Rattle.checkpoint.specs.Tests.{same}
-use Rattle.checkpoint.specs.Pages.{table_of, tableBytes}
+use Rattle.checkpoint.specs.Pages.{table_of, table_bytes}
 use lib.ListN.{take}
 use mathlib.Core.Path.{ap, ◌∙◌}
 use borrow.Author.Rules.{rules}
@@ -29,7 +29,7 @@ same-front-requires c κs = search rules
 returns : tie.Need-returns
 returns c =
     let a = c.before.before.before.before.before.before.args in
-    let size = tableBytes a.n in
+    let size = table_bytes a.n in
     let long = length-table a.n in
     c.same-front.ensures
     ∙ rw c.before.before.before.put-table.ensures

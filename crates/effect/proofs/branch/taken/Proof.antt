@@ -4,7 +4,7 @@ use denote.Enum.Declared.{tag_of}
 use Rattle.effect.specs.Operations.{taken}
 use Rattle.instruction.proofs.Kindred.{others}
 use Rattle.instruction.specs.contracts.BranchKind as Kind
-use Rattle.instruction.specs.Kinds.{branchKindOf}
+use Rattle.instruction.specs.Kinds.{branch_kind_of}
 use Rattle.instruction.specs.declared.BranchKind.TheVariants.{Beq}
 use Rattle.opcode.specs.Opcodes.{all}
 use borrow.Author.Rules.{rules}
@@ -33,7 +33,7 @@ returns-5 c = rw (c.before.enum-told5.given.1, c.ult2.ensures)
 
 returns-6 : tie.Need-returns-6
 unfolding taken all
-returns-6 c = ap (λ (k : BranchKind). taken k c.before.args.s c.before.args.t) (others (tag_of Kind.the_type) branchKindOf Beq refl c.before.args.op c.match.keys6)
+returns-6 c = ap (λ (k : BranchKind). taken k c.before.args.s c.before.args.t) (others (tag_of Kind.the_type) branch_kind_of Beq refl c.before.args.op c.match.keys6)
 
 pub taken-spec : {M : Type 1} → statement M
 taken-spec =

@@ -1,15 +1,15 @@
-use Rattle.effect.specs.Effects.{onLoaded}
+use Rattle.effect.specs.Effects.{on_loaded}
 use Rattle.effect.specs.Operations.{loaded}
 use borrow.Author.Rules.{rules}
 use Rattle.effect.proofs.immediate.loaded_16.Statement.{statement}
 use Rattle.effect.proofs.immediate.loaded_16.Tie as tie
 
 returns : tie.Need-returns
-unfolding onLoaded loaded
+unfolding on_loaded loaded
 returns c = λ rd. rw c.before.before.before.l.given.1 (rw (c.writes.ensures, c.before.extend-16.ensures))
 
 returns-2 : tie.Need-returns-2
-unfolding onLoaded
+unfolding on_loaded
 returns-2 c = λ rd. rw c.before.l2.given.1
 
 pub loaded-16-spec : {M : Type 1} → statement M

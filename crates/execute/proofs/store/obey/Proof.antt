@@ -1,4 +1,4 @@
-use Rattle.forms.specs.Forms.{usedBits}
+use Rattle.forms.specs.Forms.{used_bits}
 use Rattle.execute.proofs.Forms.{obeyed-made}
 use Rattle.opcode.specs.declared.Form.TheVariants as F
 use native.Mathlib.Omega.{arith}
@@ -11,7 +11,7 @@ executed-requires : tie.Need-executed-requires
 executed-requires c κs = rw c.before.before.before.before.parts.ensures c.before.before.before.before.before.before.before.requires
 
 returns : tie.Need-returns
-unfolding usedBits
+unfolding used_bits
 returns c = obeyed-made _ _ _ _ F.S 0 _ (sym c.before.before.before.before.before.before.before.before.before.before.requires) (omega (arith, c.before.before.before.before.before.before.before.before.before.before.ranges)) _ _ _ refl c.before.before.before.before.before.before.before.before.immediate.ensures c.before.before.before.before.before.before.before.parts.ensures c.before.before.executed.ensures
 
 pub obey-spec : {M : Type 1} → statement M

@@ -1,6 +1,6 @@
 use Rattle.opcode.specs.Opcodes.{all}
 use Rattle.instruction.specs.declared.BranchKind.TheVariants.{Beq}
-use Rattle.instruction.specs.Kinds.{branchKindOf}
+use Rattle.instruction.specs.Kinds.{branch_kind_of}
 use Rattle.instruction.specs.contracts.BranchKind as Kind
 use Rattle.instruction.proofs.Kindred.{others}
 use denote.Enum.Declared.{tag_of}
@@ -41,7 +41,7 @@ returns-5 c = rw c.enum-told5.given.1
 
 returns-6 : tie.Need-returns-6
 unfolding all
-returns-6 c = others (tag_of Kind.the_type) branchKindOf Beq refl c.before.args.op c.match.keys6
+returns-6 c = others (tag_of Kind.the_type) branch_kind_of Beq refl c.before.args.op c.match.keys6
 
 pub branch-kind-spec : {M : Type 1} → statement M
 branch-kind-spec =

@@ -1,6 +1,6 @@
 use Rattle.opcode.specs.Opcodes.{all}
 use Rattle.instruction.specs.declared.Division.TheVariants.{Div}
-use Rattle.instruction.specs.Kinds.{divisionOf}
+use Rattle.instruction.specs.Kinds.{division_of}
 use Rattle.instruction.specs.contracts.Division as Kind
 use Rattle.instruction.proofs.Kindred.{others}
 use denote.Enum.Declared.{tag_of}
@@ -29,7 +29,7 @@ returns-3 c = rw c.enum-told3.given.1
 
 returns-4 : tie.Need-returns-4
 unfolding all
-returns-4 c = others (tag_of Kind.the_type) divisionOf Div refl c.before.args.op c.match.keys4
+returns-4 c = others (tag_of Kind.the_type) division_of Div refl c.before.args.op c.match.keys4
 
 pub division-spec : {M : Type 1} → statement M
 division-spec =

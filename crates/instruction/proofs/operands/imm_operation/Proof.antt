@@ -1,6 +1,6 @@
 use Rattle.opcode.specs.Opcodes.{all}
 use Rattle.instruction.specs.declared.ImmOperation.TheVariants.{Andi}
-use Rattle.instruction.specs.Kinds.{immOperationOf}
+use Rattle.instruction.specs.Kinds.{imm_operation_of}
 use Rattle.instruction.specs.contracts.ImmOperation as Kind
 use Rattle.instruction.proofs.Kindred.{others}
 use denote.Enum.Declared.{tag_of}
@@ -41,7 +41,7 @@ returns-5 c = rw c.enum-told5.given.1
 
 returns-6 : tie.Need-returns-6
 unfolding all
-returns-6 c = others (tag_of Kind.the_type) immOperationOf Andi refl c.before.args.op c.match.keys6
+returns-6 c = others (tag_of Kind.the_type) imm_operation_of Andi refl c.before.args.op c.match.keys6
 
 pub imm-operation-spec : {M : Type 1} → statement M
 imm-operation-spec =

@@ -1,7 +1,7 @@
 use Rattle.opcode.specs.Opcodes.{all}
 use Rattle.opcode.specs.declared.Opcode.{Opcode}
 use Rattle.instruction.specs.declared.Instruction.TheVariants as N
-use Rattle.instruction.specs.Kinds.{divisionOf, operationOf, immOperationOf, moveKindOf, loadKindOf, storeKindOf, branchKindOf}
+use Rattle.instruction.specs.Kinds.{division_of, operation_of, imm_operation_of, move_kind_of, load_kind_of, store_kind_of, branch_kind_of}
 use Rattle.instruction.proofs.Kindred.{at_places}
 use mathlib.Core.List.{[], ◌∷◌}
 use mathlib.Core.Path.{refl}
@@ -101,31 +101,31 @@ returns-8 c = rw c.enum-told8.given.1
 
 returns-9 : tie.Need-returns-9
 unfolding all
-returns-9 c = rw (c.divide.ensures, c.before.division.ensures) (at_places c.before.before.before.args.p (λ (op : Opcode). N.Divide (divisionOf op) c.before.before.before.args.p.a c.before.before.before.args.p.b c.before.before.before.args.p.c) (4 ∷ 5 ∷ 6 ∷ 7 ∷ []) refl c.before.before.match.keys9)
+returns-9 c = rw (c.divide.ensures, c.before.division.ensures) (at_places c.before.before.before.args.p (λ (op : Opcode). N.Divide (division_of op) c.before.before.before.args.p.a c.before.before.before.args.p.b c.before.before.before.args.p.c) (4 ∷ 5 ∷ 6 ∷ 7 ∷ []) refl c.before.before.match.keys9)
 
 returns-10 : tie.Need-returns-10
 unfolding all
-returns-10 c = rw (c.operate-imm.ensures, c.before.imm-operation.ensures) (at_places c.before.before.before.args.p (λ (op : Opcode). N.OpImm (immOperationOf op) c.before.before.before.args.p.a c.before.before.before.args.p.b c.before.before.before.args.p.imm) (12 ∷ 13 ∷ 14 ∷ 18 ∷ 19 ∷ 20 ∷ []) refl c.before.before.match.keys10)
+returns-10 c = rw (c.operate-imm.ensures, c.before.imm-operation.ensures) (at_places c.before.before.before.args.p (λ (op : Opcode). N.OpImm (imm_operation_of op) c.before.before.before.args.p.a c.before.before.before.args.p.b c.before.before.before.args.p.imm) (12 ∷ 13 ∷ 14 ∷ 18 ∷ 19 ∷ 20 ∷ []) refl c.before.before.match.keys10)
 
 returns-11 : tie.Need-returns-11
 unfolding all
-returns-11 c = rw (c.move-if.ensures, c.before.move-kind.ensures) (at_places c.before.before.before.args.p (λ (op : Opcode). N.Move (moveKindOf op) c.before.before.before.args.p.a c.before.before.before.args.p.b c.before.before.before.args.p.c) (27 ∷ 28 ∷ 29 ∷ []) refl c.before.before.match.keys11)
+returns-11 c = rw (c.move-if.ensures, c.before.move-kind.ensures) (at_places c.before.before.before.args.p (λ (op : Opcode). N.Move (move_kind_of op) c.before.before.before.args.p.a c.before.before.before.args.p.b c.before.before.before.args.p.c) (27 ∷ 28 ∷ 29 ∷ []) refl c.before.before.match.keys11)
 
 returns-12 : tie.Need-returns-12
 unfolding all
-returns-12 c = rw (c.load.ensures, c.before.load-kind.ensures) (at_places c.before.before.before.args.p (λ (op : Opcode). N.Load (loadKindOf op) c.before.before.before.args.p.a c.before.before.before.args.p.b c.before.before.before.args.p.imm) (30 ∷ 31 ∷ 32 ∷ 33 ∷ 34 ∷ 35 ∷ []) refl c.before.before.match.keys12)
+returns-12 c = rw (c.load.ensures, c.before.load-kind.ensures) (at_places c.before.before.before.args.p (λ (op : Opcode). N.Load (load_kind_of op) c.before.before.before.args.p.a c.before.before.before.args.p.b c.before.before.before.args.p.imm) (30 ∷ 31 ∷ 32 ∷ 33 ∷ 34 ∷ 35 ∷ []) refl c.before.before.match.keys12)
 
 returns-13 : tie.Need-returns-13
 unfolding all
-returns-13 c = rw (c.store.ensures, c.before.store-kind.ensures) (at_places c.before.before.before.args.p (λ (op : Opcode). N.Store (storeKindOf op) c.before.before.before.args.p.a c.before.before.before.args.p.b c.before.before.before.args.p.imm) (36 ∷ 37 ∷ 38 ∷ 39 ∷ []) refl c.before.before.match.keys13)
+returns-13 c = rw (c.store.ensures, c.before.store-kind.ensures) (at_places c.before.before.before.args.p (λ (op : Opcode). N.Store (store_kind_of op) c.before.before.before.args.p.a c.before.before.before.args.p.b c.before.before.before.args.p.imm) (36 ∷ 37 ∷ 38 ∷ 39 ∷ []) refl c.before.before.match.keys13)
 
 returns-14 : tie.Need-returns-14
 unfolding all
-returns-14 c = rw (c.branch.ensures, c.before.branch-kind.ensures) (at_places c.before.before.before.args.p (λ (op : Opcode). N.Branch (branchKindOf op) c.before.before.before.args.p.a c.before.before.before.args.p.b c.before.before.before.args.p.imm) (40 ∷ 41 ∷ 42 ∷ 43 ∷ 44 ∷ 45 ∷ []) refl c.before.before.match.keys14)
+returns-14 c = rw (c.branch.ensures, c.before.branch-kind.ensures) (at_places c.before.before.before.args.p (λ (op : Opcode). N.Branch (branch_kind_of op) c.before.before.before.args.p.a c.before.before.before.args.p.b c.before.before.before.args.p.imm) (40 ∷ 41 ∷ 42 ∷ 43 ∷ 44 ∷ 45 ∷ []) refl c.before.before.match.keys14)
 
 returns-15 : tie.Need-returns-15
 unfolding all
-returns-15 c = rw (c.operate.ensures, c.before.operation.ensures) (at_places c.before.before.before.args.p (λ (op : Opcode). N.Op (operationOf op) c.before.before.before.args.p.a c.before.before.before.args.p.b c.before.before.before.args.p.c) (3 ∷ 9 ∷ 10 ∷ 11 ∷ 15 ∷ 16 ∷ 17 ∷ 21 ∷ 22 ∷ 23 ∷ 24 ∷ 25 ∷ 26 ∷ []) refl c.before.before.match.keys15)
+returns-15 c = rw (c.operate.ensures, c.before.operation.ensures) (at_places c.before.before.before.args.p (λ (op : Opcode). N.Op (operation_of op) c.before.before.before.args.p.a c.before.before.before.args.p.b c.before.before.before.args.p.c) (3 ∷ 9 ∷ 10 ∷ 11 ∷ 15 ∷ 16 ∷ 17 ∷ 21 ∷ 22 ∷ 23 ∷ 24 ∷ 25 ∷ 26 ∷ []) refl c.before.before.match.keys15)
 
 pub instruction-of-spec : {M : Type 1} → statement M
 instruction-of-spec =

@@ -1,6 +1,6 @@
 use Rattle.opcode.specs.Opcodes.{all}
 use Rattle.instruction.specs.declared.Operation.TheVariants.{Mulh}
-use Rattle.instruction.specs.Kinds.{operationOf}
+use Rattle.instruction.specs.Kinds.{operation_of}
 use Rattle.instruction.specs.contracts.Operation as Kind
 use Rattle.instruction.proofs.Kindred.{others}
 use denote.Enum.Declared.{tag_of}
@@ -83,7 +83,7 @@ returns-12 c = rw c.enum-told12.given.1
 
 returns-13 : tie.Need-returns-13
 unfolding all
-returns-13 c = others (tag_of Kind.the_type) operationOf Mulh refl c.before.args.op c.match.keys13
+returns-13 c = others (tag_of Kind.the_type) operation_of Mulh refl c.before.args.op c.match.keys13
 
 pub operation-spec : {M : Type 1} → statement M
 operation-spec =

@@ -1,6 +1,6 @@
 use Rattle.opcode.specs.Opcodes.{all}
 use Rattle.instruction.specs.declared.StoreKind.TheVariants.{Sb}
-use Rattle.instruction.specs.Kinds.{storeKindOf}
+use Rattle.instruction.specs.Kinds.{store_kind_of}
 use Rattle.instruction.specs.contracts.StoreKind as Kind
 use Rattle.instruction.proofs.Kindred.{others}
 use denote.Enum.Declared.{tag_of}
@@ -29,7 +29,7 @@ returns-3 c = rw c.enum-told3.given.1
 
 returns-4 : tie.Need-returns-4
 unfolding all
-returns-4 c = others (tag_of Kind.the_type) storeKindOf Sb refl c.before.args.op c.match.keys4
+returns-4 c = others (tag_of Kind.the_type) store_kind_of Sb refl c.before.args.op c.match.keys4
 
 pub store-kind-spec : {M : Type 1} → statement M
 store-kind-spec =

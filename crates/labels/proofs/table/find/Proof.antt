@@ -3,7 +3,7 @@ use Prim.Native.Nat.{◌+◌}
 use lib.ListN.{length}
 use native.Mathlib.Omega.{arith}
 use Rattle.labels.specs.Reading.{name_at}
-use Rattle.labels.specs.Table.{index_at, index_by, indexIn, foundBy}
+use Rattle.labels.specs.Table.{index_at, index_by, index_in, found_by}
 use Rattle.labels.specs.declared.table.Found.TheVariants.{At}
 use Rattle.labels.specs.declared.table.Slot.{Slot}
 use Rattle.labels.specs.declared.table.Name.{Name}
@@ -64,26 +64,26 @@ enum-told-2 : tie.Need-enum-told-2
 enum-told-2 c = search rules
 
 returns : tie.Need-returns
-unfolding indexIn
+unfolding index_in
 returns c =
     let args = c.before.before.before.before.before.before.before.before.before.args in
     ap (At (index_at args.table.now c.before.before.k.given.0.0))
     (ap (λ (n : Name). n.after) c.before.before.before.before.before.name-at.ensures)
-    ∙ ap (λ (r : Slot). foundBy (index_by r args.table.now) (args.at + length (name_at args.s.now args.at)))
+    ∙ ap (λ (r : Slot). found_by (index_by r args.table.now) (args.at + length (name_at args.s.now args.at)))
     (sym (sym c.before.before.before.before.search.ensures ∙ c.before.before.k.given.1))
 
 returns-2 : tie.Need-returns-2
-unfolding indexIn
+unfolding index_in
 returns-2 c =
     let args = c.before.before.before.before.before.before.before.args in
-    ap (λ (r : Slot). foundBy (index_by r args.table.now) (args.at + length (name_at args.s.now args.at)))
+    ap (λ (r : Slot). found_by (index_by r args.table.now) (args.at + length (name_at args.s.now args.at)))
     (sym (sym c.before.before.search.ensures ∙ c.enum_told.given.1))
 
 returns-3 : tie.Need-returns-3
-unfolding indexIn
+unfolding index_in
 returns-3 c =
     let args = c.before.before.before.before.before.before.before.args in
-    ap (λ (r : Slot). foundBy (index_by r args.table.now) (args.at + length (name_at args.s.now args.at)))
+    ap (λ (r : Slot). found_by (index_by r args.table.now) (args.at + length (name_at args.s.now args.at)))
     (sym (sym c.before.before.search.ensures ∙ c.enum-told2.given.1))
 
 pub find_spec : {M : Type 1} → statement M

@@ -3,7 +3,7 @@ use mathlib.Core.Bool.{Bool, ◌&&◌}
 use Prim.Native.Nat.{ℕ}
 use borrow.Author.Tests.{eq-eqb, ne_eqb}
 use Rattle.labels.specs.Reading.{name_at}
-use Rattle.labels.specs.Bytes.{eqBytes}
+use Rattle.labels.specs.Bytes.{eq_bytes}
 use Rattle.labels.specs.declared.table.Name.{Name}
 use borrow.Author.Rules.{rules}
 use Rattle.labels.proofs.table.is_label.Statement.{statement}
@@ -13,7 +13,7 @@ returns : tie.Need-returns
 returns c =
     let args = c.before.before.before.before.args in
     sym
-    (ap (λ (x : Bool). x && eqBytes (name_at args.text.now args.p) (name_at args.s.now args.at))
+    (ap (λ (x : Bool). x && eq_bytes (name_at args.text.now args.p) (name_at args.s.now args.at))
     (ne_eqb _ _ (λ z. c.if1.true (z ∙ sym (ap (λ (n : Name). n.key) c.before.before.before.before.requires)))))
 
 place-requires : tie.Need-place-requires
@@ -26,9 +26,9 @@ returns-2 : tie.Need-returns-2
 returns-2 c =
     let args = c.before.before.before.before.before.before.args in
     c.same.ensures
-    ∙ ap (λ (p : ℕ). eqBytes (name_at args.text.now p) (name_at args.s.now args.at)) c.before.place.ensures
+    ∙ ap (λ (p : ℕ). eq_bytes (name_at args.text.now p) (name_at args.s.now args.at)) c.before.place.ensures
     ∙ sym
-    (ap (λ (x : Bool). x && eqBytes (name_at args.text.now args.p) (name_at args.s.now args.at))
+    (ap (λ (x : Bool). x && eq_bytes (name_at args.text.now args.p) (name_at args.s.now args.at))
     (eq-eqb _ _ (c.before.before.if1.false ∙ ap (λ (n : Name). n.key) c.before.before.before.before.before.before.requires)))
 
 pub is-label-spec : {M : Type 1} → statement M

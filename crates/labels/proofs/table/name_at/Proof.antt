@@ -1,6 +1,6 @@
 use Rattle.labels.proofs.Steps.{NameRead, name-starts, name-on, name-ends, class-inside}
 use Rattle.labels.proofs.Classes.{part-bounds}
-use Rattle.labels.specs.Bytes.{isPart}
+use Rattle.labels.specs.Bytes.{is_part}
 use borrow.Author.Tests.{not-true, not-false}
 use native.Mathlib.Omega.{arith}
 use lib.ListN.{length}
@@ -44,16 +44,16 @@ add-n : tie.Need-overflow-add-n invariant-loop decreases-loop
 add-n c =
     omega (
       arith,
-      class-inside isPart c.before.before.before.before.before.before.args.s.now c.before.before.before.before.loop.n refl
-          (ap isPart (sym c.before.before.before.byte.ensures) ∙ sym c.before.before.part.ensures ∙ not-false _ c.before.if1.false),
+      class-inside is_part c.before.before.before.before.before.before.args.s.now c.before.before.before.before.loop.n refl
+          (ap is_part (sym c.before.before.before.byte.ensures) ∙ sym c.before.before.part.ensures ∙ not-false _ c.before.if1.false),
     )
 
 loop-less : tie.Need-loop-smaller invariant-loop decreases-loop
 loop-less c =
     omega (
       arith,
-      class-inside isPart c.before.before.before.before.before.before.args.s.now c.before.before.before.before.loop.n refl
-          (ap isPart (sym c.before.before.before.byte.ensures) ∙ sym c.before.before.part.ensures ∙ not-false _ c.before.if1.false),
+      class-inside is_part c.before.before.before.before.before.before.args.s.now c.before.before.before.before.loop.n refl
+          (ap is_part (sym c.before.before.before.byte.ensures) ∙ sym c.before.before.part.ensures ∙ not-false _ c.before.if1.false),
     )
 
 loop-again : tie.Need-loop-preserved invariant-loop decreases-loop
@@ -61,7 +61,7 @@ loop-again c =
     let args = c.before.before.before.before.before.before.args in
     let loop = c.before.before.before.before.loop in
     name-on args.s.now args.at loop.v loop.n loop.invariant c.wide.result (c.wide.ensures ∙ c.before.before.before.byte.ensures)
-    (ap isPart c.wide.ensures ∙ sym c.before.before.part.ensures ∙ not-false _ c.before.if1.false)
+    (ap is_part c.wide.ensures ∙ sym c.before.before.part.ensures ∙ not-false _ c.before.if1.false)
 
 pub name-at-spec : {M : Type 1} → statement M
 name-at-spec =

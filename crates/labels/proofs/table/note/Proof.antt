@@ -5,7 +5,7 @@ use Prim.Native.Nat.{ℕ, ◌*◌}
 use mathlib.Core.List.{[], ◌∷◌}
 use Rattle.labels.proofs.Searches.{free-below, three-sets}
 use Rattle.labels.specs.declared.table.Slot.{Slot}
-use Rattle.labels.specs.Table.{notedBy, withLabel}
+use Rattle.labels.specs.Table.{noted_by, with_label}
 use Rattle.labels.specs.Reading.{name_at}
 use lib.ListN.{length-set}
 use native.Mathlib.Omega.{arith}
@@ -119,7 +119,7 @@ returns : tie.Need-returns
 returns c =
     let a = c.before.before.before.before.before.before.before.args in
     let e = sym c.before.before.search.ensures ∙ c.enum_told.given.1 in
-    (ap notedBy (sym e), ap (λ (r : Slot). withLabel r a.table.now a.at (key_of (name_at a.text.now a.at)) a.index) (sym e))
+    (ap noted_by (sym e), ap (λ (r : Slot). with_label r a.table.now a.at (key_of (name_at a.text.now a.at)) a.index) (sym e))
 
 same-length-2 : tie.Need-same-length-2
 same-length-2 c = search rules
@@ -129,11 +129,11 @@ returns-2 c =
     let a = c.before.before.before.before.before.before.before.before.args in
     let e = sym c.before.before.before.search.ensures ∙ c.before.k.given.1 in
     let key = key_of (name_at a.text.now a.at) in (
-      ap notedBy (sym e),
+      ap noted_by (sym e),
       three-sets a.table.now (3 * c.before.k.given.0.0) a.at c.before.before.before.before.before.name-at.result.key a.index
           ∙ ap (λ (q : ℕ). sets a.table.now (3 * c.before.k.given.0.0) (a.at ∷ (q ∷ (a.index ∷ []))))
           (ap (λ (n : Name). n.key) c.before.before.before.before.before.name-at.ensures)
-          ∙ ap (λ (r : Slot). withLabel r a.table.now a.at key a.index) (sym e),
+          ∙ ap (λ (r : Slot). with_label r a.table.now a.at key a.index) (sym e),
     )
 
 same-length-3 : tie.Need-same-length-3
@@ -143,7 +143,7 @@ returns-3 : tie.Need-returns-3
 returns-3 c =
     let a = c.before.before.before.before.before.before.before.args in
     let e = sym c.before.before.search.ensures ∙ c.enum-told2.given.1 in
-    (ap notedBy (sym e), ap (λ (r : Slot). withLabel r a.table.now a.at (key_of (name_at a.text.now a.at)) a.index) (sym e))
+    (ap noted_by (sym e), ap (λ (r : Slot). with_label r a.table.now a.at (key_of (name_at a.text.now a.at)) a.index) (sym e))
 
 pub note-spec : {M : Type 1} → statement M
 note-spec =

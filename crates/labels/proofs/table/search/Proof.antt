@@ -1,6 +1,6 @@
 use Rattle.labels.proofs.Searches.{search-free, search-held, search-on}
 use Rattle.labels.specs.declared.table.Name.{Name}
-use Rattle.labels.specs.Table.{slots_of, home_of, searchFrom, searchIn}
+use Rattle.labels.specs.Table.{slots_of, home_of, search_from, search_in}
 use Rattle.labels.specs.Reading.{name_at}
 use Rattle.labels.specs.Bytes.{key_of}
 use lib.ListN.{length}
@@ -12,18 +12,18 @@ use Rattle.labels.proofs.table.search.Tie as tie
 
 abbrev invariant-loop : tie.invariant-loop
 invariant-loop text table s at name slots k₀ left₀ k left =
-    (k < slots) × ((slots ≡ length table / 3) × (searchIn text table (name_at s at) ≡ searchFrom text table (name_at s at) left k))
+    (k < slots) × ((slots ≡ length table / 3) × (search_in text table (name_at s at) ≡ search_from text table (name_at s at) left k))
 
 abbrev decreases-loop : tie.decreases-loop
 decreases-loop text table s at name slots k₀ left₀ k left = left
 
 returns : tie.Need-returns invariant-loop decreases-loop
-unfolding searchIn searchFrom
+unfolding search_in search_from
 returns c =
     let args = c.before.before.before.before.args in
     sym
     (ap
-    (λ (n : ℕ). searchFrom args.text.now args.table.now (name_at args.s.now args.at) n
+    (λ (n : ℕ). search_from args.text.now args.table.now (name_at args.s.now args.at) n
     (home_of (key_of (name_at args.s.now args.at)) n))
     c.if1.true)
 
@@ -31,13 +31,13 @@ home-requires : tie.Need-home-requires invariant-loop decreases-loop
 home-requires c κs = omega (arith, c.if1.false)
 
 loop-holds : tie.Need-loop-init invariant-loop decreases-loop
-unfolding searchIn
+unfolding search_in
 loop-holds c =
     let a = c.before.before.before.before.before.args in (
       c.home.ensures.1,
       (
         refl,
-        ap (searchFrom a.text.now a.table.now (name_at a.s.now a.at) (slots_of a.table.now))
+        ap (search_from a.text.now a.table.now (name_at a.s.now a.at) (slots_of a.table.now))
             (sym
             (c.home.ensures.0
             ∙ ap (λ (n : ℕ). home_of n (slots_of a.table.now)) (ap (λ (n : Name). n.key) c.before.before.before.before.before.requires))),
@@ -45,11 +45,11 @@ loop-holds c =
     )
 
 returns-2 : tie.Need-returns-2 invariant-loop decreases-loop
-unfolding searchFrom
+unfolding search_from
 returns-2 c =
     let a = c.before.before.before.before.before.before.before.args in
     let l = c.before.loop in
-    sym (l.invariant.1.1 ∙ ap (λ (n : ℕ). searchFrom a.text.now a.table.now (name_at a.s.now a.at) n l.k) c.if2.true)
+    sym (l.invariant.1.1 ∙ ap (λ (n : ℕ). search_from a.text.now a.table.now (name_at a.s.now a.at) n l.k) c.if2.true)
 
 mul-i : tie.Need-overflow-mul-i invariant-loop decreases-loop
 mul-i c = omega arith
@@ -109,7 +109,7 @@ loop-again c =
             ∙ search-on a.text.now a.table.now (name_at a.s.now a.at) l.k l.left
             c.before.before.before.before.before.before.if2.false c.before.before.before.before.if3.false
             (sym c.before.before.is-label.ensures ∙ c.before.if4.false)
-            ∙ ap (searchFrom a.text.now a.table.now (name_at a.s.now a.at) (l.left - 1)) (sym c.next.ensures.0),
+            ∙ ap (search_from a.text.now a.table.now (name_at a.s.now a.at) (l.left - 1)) (sym c.next.ensures.0),
       ),
     )
 

@@ -11,8 +11,8 @@ use Rattle.state.specs.Held.{kept, waits}
 use Rattle.state.specs.Formed.{all_below}
 use Rattle.state.proofs.Below.{all_none}
 use Rattle.layout.proofs.Rows.{table_more, filled}
-use Rattle.layout.specs.Layout.{table, heldIn, boundIn, stateIn, recordLaid, wellLaid}
-use Rattle.layout.specs.Reading.{headerLaid}
+use Rattle.layout.specs.Layout.{table, held_in, bound_in, state_in, record_laid, well_laid}
+use Rattle.layout.specs.Reading.{header_laid}
 use borrow.Author.Rules.{rules}
 use Rattle.layout.proofs.reading.read.Statement.{statement}
 use Rattle.layout.proofs.reading.read.Tie as tie
@@ -20,10 +20,10 @@ use Rattle.layout.proofs.reading.read.Tie as tie
 abbrev invariant-loop : tie.invariant-loop
 invariant-loop bytes regs₀ accumulated₀ bounds₀ laid₀ i₀ regs accumulated bounds laid i =
     (i ≤ 16)
-    × (sets regs i (table (16 - i) i (λ k. kept (heldIn bytes k))) ≡ sets regs₀ 0 (table 16 0 (λ k. kept (heldIn bytes k))))
-    × (sets accumulated i (table (16 - i) i (λ k. waits (heldIn bytes k))) ≡ sets accumulated₀ 0 (table 16 0 (λ k. waits (heldIn bytes k))))
-    × (sets bounds i (table (16 - i) i (boundIn bytes)) ≡ sets bounds₀ 0 (table 16 0 (boundIn bytes)))
-    × (laid ≡ (all_below (recordLaid bytes) i && laid₀))
+    × (sets regs i (table (16 - i) i (λ k. kept (held_in bytes k))) ≡ sets regs₀ 0 (table 16 0 (λ k. kept (held_in bytes k))))
+    × (sets accumulated i (table (16 - i) i (λ k. waits (held_in bytes k))) ≡ sets accumulated₀ 0 (table 16 0 (λ k. waits (held_in bytes k))))
+    × (sets bounds i (table (16 - i) i (bound_in bytes)) ≡ sets bounds₀ 0 (table 16 0 (bound_in bytes)))
+    × (laid ≡ (all_below (record_laid bytes) i && laid₀))
 
 abbrev decreases-loop : tie.decreases-loop
 decreases-loop bytes regs₀ accumulated₀ bounds₀ laid₀ i₀ regs accumulated bounds laid i = 16 - i
@@ -71,16 +71,16 @@ loop-less : tie.Need-loop-smaller invariant-loop decreases-loop
 loop-less c = omega arith
 
 loop-again : tie.Need-loop-preserved invariant-loop decreases-loop
-unfolding recordLaid
+unfolding record_laid
 loop-again c =
     let b = c.before.before.before.before.before.before.before.before.before.args.bytes.now in
     let l = c.before.before.before.before.before.before.loop in
     let parts = c.before.before.before.before.parts_at.ensures in (
       omega arith,
-      sym (table_more l.regs 16 l.i (λ k. kept (heldIn b k)) (omega arith) (c.before.before.before.kept_by.ensures ∙ rw parts)) ∙ l.invariant.1,
-      sym (table_more l.accumulated 16 l.i (λ k. waits (heldIn b k)) (omega arith) (rw parts (waits-by _ _ _))) ∙ l.invariant.2,
-      sym (table_more l.bounds 16 l.i (boundIn b) (omega arith) (rw parts)) ∙ l.invariant.3,
-      c.both.ensures ∙ rw (c.before.parts-laid.ensures, parts, l.invariant.4) (all-next (recordLaid b) l.i _),
+      sym (table_more l.regs 16 l.i (λ k. kept (held_in b k)) (omega arith) (c.before.before.before.kept_by.ensures ∙ rw parts)) ∙ l.invariant.1,
+      sym (table_more l.accumulated 16 l.i (λ k. waits (held_in b k)) (omega arith) (rw parts (waits-by _ _ _))) ∙ l.invariant.2,
+      sym (table_more l.bounds 16 l.i (bound_in b) (omega arith) (rw parts)) ∙ l.invariant.3,
+      c.both.ensures ∙ rw (c.before.parts-laid.ensures, parts, l.invariant.4) (all-next (record_laid b) l.i _),
     )
 
 number-at-requires : tie.Need-number-at-requires invariant-loop decreases-loop
@@ -93,19 +93,19 @@ together-requires : tie.Need-together-requires invariant-loop decreases-loop
 together-requires c κs = tt
 
 returns : tie.Need-returns invariant-loop decreases-loop
-unfolding stateIn wellLaid
+unfolding state_in well_laid
 returns c =
     let b = c.before.before.before.before.before.before.before.args.bytes.now in
     let l = c.before.before.before.before.loop in
     let end : l.i ≡ 16 = omega arith in
-    let laid : l.laid ≡ wellLaid b = (rw end at l.invariant.4) ∙ rw c.before.before.before.before.before.header-laid.ensures (and_comm (all_below (recordLaid b) 16) (headerLaid b)) in
+    let laid : l.laid ≡ well_laid b = (rw end at l.invariant.4) ∙ rw c.before.before.before.before.before.header-laid.ensures (and_comm (all_below (record_laid b) 16) (header_laid b)) in
     rw (
       c.together.ensures,
       c.before.before.number_at.ensures,
       c.before.number-at2.ensures,
-      filled 16 l.regs (replicate 16 0) l.i (λ k. kept (heldIn b k)) (omega arith) refl l.invariant.1,
-      filled 16 l.accumulated (replicate 16 false) l.i (λ k. waits (heldIn b k)) (omega arith) refl l.invariant.2,
-      filled 16 l.bounds (replicate 16 0) l.i (boundIn b) (omega arith) refl l.invariant.3,
+      filled 16 l.regs (replicate 16 0) l.i (λ k. kept (held_in b k)) (omega arith) refl l.invariant.1,
+      filled 16 l.accumulated (replicate 16 false) l.i (λ k. waits (held_in b k)) (omega arith) refl l.invariant.2,
+      filled 16 l.bounds (replicate 16 0) l.i (bound_in b) (omega arith) refl l.invariant.3,
       laid,
     )
 

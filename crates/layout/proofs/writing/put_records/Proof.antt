@@ -7,14 +7,14 @@ use native.Mathlib.Omega.{arith}
 use mathlib.Core.Path.{◌≡◌, refl, sym, ◌∙◌}
 use Rattle.state.specs.Registers.{registers}
 use Rattle.layout.proofs.Stored.{records-more, records-none}
-use Rattle.layout.specs.Layout.{HEADER_BYTES, recordAt, records}
+use Rattle.layout.specs.Layout.{HEADER_BYTES, record_at, records}
 use Rattle.layout.proofs.writing.put_records.Statement.{statement}
 use Rattle.layout.proofs.writing.put_records.Tie as tie
 
 abbrev invariant-loop : tie.invariant-loop
 invariant-loop bytes₀ regs accumulated bounds i₀ bytes i =
     (length bytes ≡ length bytes₀) × (i ≤ 16)
-    × (sets bytes (recordAt i) (records (16 - i) i (registers regs accumulated bounds)) ≡ sets bytes₀ HEADER_BYTES (records 16 0 (registers regs accumulated bounds)))
+    × (sets bytes (record_at i) (records (16 - i) i (registers regs accumulated bounds)) ≡ sets bytes₀ HEADER_BYTES (records 16 0 (registers regs accumulated bounds)))
 
 abbrev decreases-loop : tie.decreases-loop
 decreases-loop bytes₀ regs accumulated bounds i₀ bytes i = 16 - i

@@ -5,7 +5,7 @@ use mathlib.Core.Path.{refl}
 use mathlib.Core.List.{append_assoc}
 use Rattle.state.specs.Held.{held_of}
 use Rattle.layout.proofs.Stored.{head-is}
-use Rattle.layout.specs.Layout.{kind_of, first_of, second_of, recordBytes}
+use Rattle.layout.specs.Layout.{kind_of, first_of, second_of, record_bytes}
 use borrow.Author.Rules.{rules}
 use Rattle.layout.proofs.writing.record_of.Statement.{statement}
 use Rattle.layout.proofs.writing.record_of.Tie as tie
@@ -17,11 +17,11 @@ add-t7 : tie.Need-overflow-add-t7
 add-t7 c = search rules
 
 returns : tie.Need-returns
-unfolding recordBytes kind_of first_of second_of held_of
+unfolding record_bytes kind_of first_of second_of held_of
 returns c = let n = c.before.args.bound in rw (c.if1.true, head-is (256 * n + 1) 1 n refl (lit< tt) (omega arith), append_assoc, append_assoc)
 
 returns-2 : tie.Need-returns-2
-unfolding recordBytes kind_of first_of second_of held_of
+unfolding record_bytes kind_of first_of second_of held_of
 returns-2 c = let n = c.before.args.bound in rw (c.if1.false, head-is (256 * n) 0 n (omega arith) (lit< tt) (omega arith), append_assoc, append_assoc)
 
 pub record-of-spec : {M : Type 1} → statement M

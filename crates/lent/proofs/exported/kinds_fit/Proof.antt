@@ -4,7 +4,7 @@ use Prim.Native.Nat.{◌≤◌, ◌-◌}
 use native.Mathlib.Omega.{arith}
 use mathlib.Core.Path.{◌≡◌, sym}
 use mathlib.Core.Bool.{true}
-use Rattle.lent.specs.Lent.{markFits}
+use Rattle.lent.specs.Lent.{mark_fits}
 use Rattle.state.specs.Formed.{all_below}
 use Rattle.state.proofs.Below.{all_none, all_more, all-stop}
 use Rattle.lent.proofs.exported.kinds_fit.Statement.{statement}
@@ -12,7 +12,7 @@ use Rattle.lent.proofs.exported.kinds_fit.Tie as tie
 
 abbrev invariant-loop : tie.invariant-loop
 invariant-loop kinds i₀ i =
-    (i ≤ 16) × (all_below (markFits kinds) i ≡ true)
+    (i ≤ 16) × (all_below (mark_fits kinds) i ≡ true)
 
 abbrev decreases-loop : tie.decreases-loop
 decreases-loop kinds i₀ i = 16 - i

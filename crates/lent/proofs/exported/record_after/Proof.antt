@@ -1,4 +1,4 @@
-use Rattle.lent.specs.Lent.{recordAfter}
+use Rattle.lent.specs.Lent.{record_after}
 use borrow.Author.Rules.{rules}
 use Rattle.lent.proofs.exported.record_after.Statement.{statement}
 use Rattle.lent.proofs.exported.record_after.Tie as tie
@@ -25,19 +25,19 @@ enum-told-4 : tie.Need-enum-told-4
 enum-told-4 c = search rules
 
 returns : tie.Need-returns
-unfolding recordAfter
+unfolding record_after
 returns c = rw (c.before.enum_told.given.1, c.lent_of.ensures)
 
 returns-2 : tie.Need-returns-2
-unfolding recordAfter
+unfolding record_after
 returns-2 c = rw (c.before.enum-told2.given.1, c.lent-of2.ensures)
 
 returns-3 : tie.Need-returns-3
-unfolding recordAfter
+unfolding record_after
 returns-3 c = rw (c.before.enum-told3.given.1, c.lent-of3.ensures)
 
 returns-4 : tie.Need-returns-4
-unfolding recordAfter
+unfolding record_after
 returns-4 c = rw c.enum-told4.given.1
 
 pub record-after-spec : {M : Type 1} → statement M

@@ -6,7 +6,7 @@ use mathlib.Core.Bool.{false}
 use lib.ListN.{get_or, replicate}
 use lib.Seq.{sets}
 use lib.Dec.{eqb}
-use Rattle.lent.specs.Lent.{stateOfLent}
+use Rattle.lent.specs.Lent.{state_of_lent}
 use Rattle.layout.specs.Layout.{table}
 use Rattle.layout.proofs.Rows.{table_more, filled}
 use Rattle.lent.proofs.exported.state_of_lent.Statement.{statement}
@@ -42,7 +42,7 @@ together-requires : tie.Need-together-requires invariant-loop decreases-loop
 together-requires c κs = tt
 
 returns : tie.Need-returns invariant-loop decreases-loop
-unfolding stateOfLent
+unfolding state_of_lent
 returns c = rw (c.together.ensures, filled 16 c.before.before.before.before.before.loop.accumulated (replicate 16 false) c.before.before.before.before.before.loop.i (λ k. eqb (get_or c.before.before.before.before.before.before.before.args.r.kinds k 0) 1) (omega arith) refl c.before.before.before.before.before.loop.invariant.1)
 
 pub state-of-lent-spec : {M : Type 1} → statement M

@@ -6,14 +6,14 @@ use denote.Slice.{mut_slice_vals}
 use denote.Ref.{MutBor, mut_vals}
 use Rattle.walks.proofs.Walk.{ !, Body, Calls, Contract, FmC, Fun, GName, Is, Lft, List, Loops, Meets, Memory, MutRef, MutSlice, RefT, Room, Routine, SProp, Share, Stays, Tables, Triple, Ura, Val, Walks, WpFn, WpFn-mono, [], ◌$◌, ◌<◌, ◌^◌, ◌∵◌, ◌∷◌, ◌≡◌, ◌⊛◌, addr, agg, alloc0, alloc1, and_then, ap, assigns, await, by, calls_at, cited, closes, done, drop, emp, ends_at, ensured, ent, enter, entered, fact, fat, fbor, feq_i, feq_l, finally, fjoin, fjoin3, fld, flft, fm_of, fobs, forget, frame, free0, free1, from, fsplit, fsplit3, fst∗, ftrue, full_share, gave_slice, Goes-gave_slice, Goes-none, Goes-ref, heard, hop, id⊢, init, join, keep, land, lasts, later, length, load, look, look_in, look_raw, mem, move, mut_slice_Tells, mut_Tells, named, no_more, nothing, of_opd, on_entry, only, opens, owned, owns, params1, pass0, pass1, peeks, pick, plain, ptr-vals, qed, raw, refl, returns, rewrite, says, shows, slice-vals, slice_val, some, spelt, split, stay_none, stay_ref, stop, store_raw, sub, subst, suffices, tables, tables_of, triple_of, u64, u8, uint_Makes, uint_Tells, uint_vals, use0, use1, use3, usize, via, vint, vptr, w64, walk_Meets, walk_of, walked, whole, yes, ‵, ℕ, ⋆}
 use denote.Struct.Laws as LL
-use Rattle.execute.specs.World.{worldOf}
-use Rattle.execute.specs.Rules.{rulesOf}
+use Rattle.execute.specs.World.{world_of}
+use Rattle.execute.specs.Rules.{rules_of}
 use Rattle.step.specs.Step.{step as steps}
 use Rattle.step.specs.declared.OneStep.{OneStep}
 use Rattle.checks.specs.Records.{listed}
-use Rattle.checked.specs.Machine.{steppedOver}
+use Rattle.checked.specs.Machine.{stepped_over}
 use Rattle.checks.specs.declared.Pending.{Pending}
-use Rattle.lent.proofs.Stepping.{valsC, valsS, Step, asked, to_step, goes_step}
+use Rattle.lent.proofs.Stepping.{vals_c, vals_s, Step, asked, to_step, goes_step}
 use Rattle.lent.specs.Inner.{readied, concluded}
 use Rattle.lent.specs.declared.exported.Lent.{Lent}
 use Rattle.lent.specs.declared.exported.Ready.{Ready}
@@ -52,11 +52,11 @@ use Rattle.lent.proofs.exported.zkir_step.Code as code
 abbrev stayed : Stays (self.ended).signature.params (self.ended).kept
 stayed = (stay_ref (0 ∷ []) tt (plain (λ _. L.the_row)), (gave_slice (1 ∷ []) tt (plain (λ _. u8)), (gave_slice (2 ∷ []) tt (plain (λ _. K.the_row)), (stay_none (λ _. usize) yes, (stay_none (λ _. u64) yes, tt)))))
 
-abbrev valsL : Lent → List Val
-valsL = LL.vals L.the_type L'.the_laws
+abbrev vals_l : Lent → List Val
+vals_l = LL.vals L.the_type L'.the_laws
 
-abbrev valsN : OneStep → List Val
-valsN = LL.vals N.the_type N'.the_laws
+abbrev vals_n : OneStep → List Val
+vals_n = LL.vals N.the_type N'.the_laws
 
 module _ {M : Type 1} {𝓤 : Ura M} (𝓛 : Logic 𝓤) (mem : Memory → SProp 𝓤) (run : Routine → Fun 𝓤) where
   -- the contracts that the proof cites beside `Step`
@@ -96,20 +96,20 @@ module _ {M : Type 1} {𝓤 : Ura M} (𝓛 : Logic 𝓤) (at_mem : Memory → SP
 
   -- what the callees' triples bind outside, and that the walk has what they ask
   abbrev to-prepare : (Prepare 𝓛 at_mem run).Ghost
-  to-prepare = ((tt, tt, tt, (h, (k, tt)), (valsL h, (vint w64 k ∷ [], tt))), tt)
+  to-prepare = ((tt, tt, tt, (h, (k, tt)), (vals_l h, (vint w64 k ∷ [], tt))), tt)
 
-  goes-prepare : Is L.the_row h (valsL h) → ent 𝓤 (emp 𝓤) ((Prepare 𝓛 at_mem run).pre to-prepare)
+  goes-prepare : Is L.the_row h (vals_l h) → ent 𝓤 (emp 𝓤) ((Prepare 𝓛 at_mem run).pre to-prepare)
   goes-prepare is =
       qed 𝓛 [] ∵ nothing ! $ owned ! u64 (Is u64) (uint_Makes 𝓛 w64) k _ (refl, k-fits) $ fjoin ! $ owned ! L.the_row (Is L.the_row) (LL.makes L.the_type L'.the_plain 𝓛) h _ is $ fjoin ! $ nothing ! $ join ! $ frame ! $ done !
 
   abbrev to-conclude : OneStep → (Conclude 𝓛 at_mem run).Ghost
-  to-conclude r = ((tt, tt, tt, (h, (r, tt)), (valsL h, (valsN r, tt))), tt)
+  to-conclude r = ((tt, tt, tt, (h, (r, tt)), (vals_l h, (vals_n r, tt))), tt)
 
-  goes-conclude : (r : OneStep) → Is L.the_row h (valsL h) → Is N.the_row r (valsN r) → ent 𝓤 (emp 𝓤) ((Conclude 𝓛 at_mem run).pre (to-conclude r))
+  goes-conclude : (r : OneStep) → Is L.the_row h (vals_l h) → Is N.the_row r (vals_n r) → ent 𝓤 (emp 𝓤) ((Conclude 𝓛 at_mem run).pre (to-conclude r))
   goes-conclude r is is' =
       qed 𝓛 [] ∵ nothing ! $ owned ! N.the_row (Is N.the_row) (LL.makes N.the_type N'.the_plain 𝓛) r _ is' $ fjoin ! $ owned ! L.the_row (Is L.the_row) (LL.makes L.the_type L'.the_plain 𝓛) h _ is $ fjoin ! $ nothing ! $ join ! $ frame ! $ done !
 
-  exits : (c : Ready) (r : OneStep) (d : Done) (zs : List ℕ) (ws : List Pending) (w : Val) → c ≡ readied h k → steppedOver r zs ws ≡ steps c.choices.mode (rulesOf c.choices) (worldOf c.state ys) (listed n ks) → d ≡ concluded h r → length zs ≡ length ys → length ws ≡ length ks → Is Q.the_row d.answer (w ∷ [])
+  exits : (c : Ready) (r : OneStep) (d : Done) (zs : List ℕ) (ws : List Pending) (w : Val) → c ≡ readied h k → stepped_over r zs ws ≡ steps c.choices.mode (rules_of c.choices) (world_of c.state ys) (listed n ks) → d ≡ concluded h r → length zs ≡ length ys → length ws ≡ length ks → Is Q.the_row d.answer (w ∷ [])
       → ent 𝓤 (⋆ 𝓛 (‵ (fobs γ ((L.the_row).coded.code d.lent)) ∷ ‵ (fbor κ (Body (mem L.the_row) b o γ)) ∷ ‵ (flft κ q) ∷ (‵ (flft κ₁ q₁) ⊛ ‵ (flft κ₂ q₂) ⊛ ‵ ftrue) ∷ ‵ (finally K.the_row γ₂ ws) ∷ ‵ (finally u8 γ₁ zs) ∷ [])) (Post w)
   exits c r d zs ws w e f g l l' is =
       qed 𝓛 (‵ (fobs γ ((L.the_row).coded.code d.lent)) ∷ ‵ (fbor κ (Body (mem L.the_row) b o γ)) ∷ ‵ (flft κ q) ∷ (‵ (flft κ₁ q₁) ⊛ ‵ (flft κ₂ q₂) ⊛ ‵ ftrue) ∷ ‵ (finally K.the_row γ₂ ws) ∷ ‵ (finally u8 γ₁ zs) ∷ []) ∵
@@ -119,10 +119,10 @@ module _ {M : Type 1} {𝓤 : Ura M} (𝓛 : Logic 𝓤) (at_mem : Memory → SP
       owned ! Q.the_row (Is Q.the_row) (LL.makes Q.the_type Q'.the_plain 𝓛) d.answer _ is $ move ! (1 ∷ 0 ∷ []) $ done !
 
   -- what whoever holds a `Ready` or a `Done` knows of its fields
-  made : (c : Ready) (w : Val) → Is R.the_row c (w ∷ []) → Is O.the_row c.choices (valsC c.choices) × Is T.the_row c.state (valsS c.state)
+  made : (c : Ready) (w : Val) → Is R.the_row c (w ∷ []) → Is O.the_row c.choices (vals_c c.choices) × Is T.the_row c.state (vals_s c.state)
   made c w is = let fields = LL.owed R.the_type R'.the_laws c _ is in (fields.0, fields.1.0)
 
-  parts : (d : Done) (w : Val) → Is D.the_row d (w ∷ []) → Is Q.the_row d.answer (LL.vals Q.the_type Q'.the_laws d.answer) × Is L.the_row d.lent (valsL d.lent)
+  parts : (d : Done) (w : Val) → Is D.the_row d (w ∷ []) → Is Q.the_row d.answer (LL.vals Q.the_type Q'.the_laws d.answer) × Is L.the_row d.lent (vals_l d.lent)
   parts d w is = let fields = LL.owed D.the_type D'.the_laws d _ is in (fields.0, fields.1.0)
 
   module _ (C : Calls 𝓤 H) (Λ : Loops 𝓤 H) (fm : FmC 𝓤 H 𝓛.laws C) (known-prepare : Triple 𝓤 (C #prepare) (Prepare 𝓛 at_mem run)) (Known-step : Triple 𝓤 (C #step) (Step 𝓛 at_mem run)) (known-conclude : Triple 𝓤 (C #conclude) (Conclude 𝓛 at_mem run)) where
@@ -133,8 +133,8 @@ module _ {M : Type 1} {𝓤 : Ura M} (𝓛 : Logic 𝓤) (at_mem : Memory → SP
         pass1 ! (init ! 24 refl (tt, tt)) $ pass1 ! (init ! 22 refl (tt, (tt, (record { fits = room.0 }, tt)))) $ pass1 ! (init ! 20 refl (tt, (tt, (record { fits = room'.0 }, tt)))) $ pass1 ! (init ! 18 refl (tt, record { fits = n-fits })) $ pass1 ! (init ! 16 refl (tt, record { fits = k-fits })) $ pass0 ! $
         -- the record's borrow is opened
         move ! (29 ∷ []) $ fsplit ! $ fsplit3 ! $ drop ! $ move ! (31 ∷ []) $ split ! $ move ! (2 ∷ 3 ∷ 0 ∷ []) $
-        opens ! tt L.the_row {h = h} b o (λ vs. spelt ! L.the_row (Is L.the_row) (shows 𝓛 L.the_row) valsL (LL.tells L.the_type L'.the_laws) full_share h vs b o $
-        move ! (1 ∷ []) $ peeks ! L.the_row (Is L.the_row) (shows 𝓛 L.the_row) h (valsL h) (λ g. move ! (1 ∷ 0 ∷ []) $
+        opens ! tt L.the_row {h = h} b o (λ vs. spelt ! L.the_row (Is L.the_row) (shows 𝓛 L.the_row) vals_l (LL.tells L.the_type L'.the_laws) full_share h vs b o $
+        move ! (1 ∷ []) $ peeks ! L.the_row (Is L.the_row) (shows 𝓛 L.the_row) h (vals_l h) (λ g. move ! (1 ∷ 0 ∷ []) $
         -- [the record's cell; what the record owns; the open borrow; obs; auth; the other tokens; what the others own; _13; …; _0; …]
         assigns ! (of_opd ! (load ! (from ! (hop ! (look ! 31 refl) (stop !))) (look_raw ! 0 refl))) (from ! (stop !)) (init ! 21 refl ((LL.lawful L.the_type L'.the_laws 𝓛).typed h _ g).0) $
         -- `prepare` is called
@@ -153,8 +153,8 @@ module _ {M : Type 1} {𝓤 : Ura M} (𝓛 : Logic 𝓤) (at_mem : Memory → SP
         use3 𝓛 (raw ((Step 𝓛 at_mem run).pre (to_step 𝓛 at_mem run κ₁ κ₂ q₁ q₂ c.choices c.state b₁ o₁ γ₁ ys b₂ o₂ γ₂ ks n))) (goes_step 𝓛 at_mem run κ₁ κ₂ q₁ q₂ c.choices c.state b₁ o₁ γ₁ ys b₂ o₂ γ₂ ks n (made c w₁ is₁).0 (made c w₁ is₁).1 n-fits) $
         calls_at ! fm (Step 𝓛 at_mem run) Known-step (to_step 𝓛 at_mem run κ₁ κ₂ q₁ q₂ c.choices c.state b₁ o₁ γ₁ ys b₂ o₂ γ₂ ks n) (and_then ! (load ! (from ! (fld ! refl (stop !))) (look_in ! 18 (sub ! 0 refl (whole !)))) (and_then ! (load ! (from ! (fld ! refl (stop !))) (look_in ! 18 (sub ! 1 refl (whole !)))) (and_then ! (load ! (from ! (stop !)) (look ! 10 refl)) (and_then ! (load ! (from ! (stop !)) (look ! 6 refl)) (and_then ! (load ! (from ! (stop !)) (look ! 24 refl)) (no_more !)))))) (λ w.
         use1 𝓛 (later (some (λ (r : OneStep). ((‵ (flft κ₁ q₁) ⊛ ‵ (flft κ₂ q₂) ⊛ ‵ ftrue) ⊛ ‵ ((N.the_row).own_val r (w ∷ []))) ⊛ raw (ensured 𝓛 step.ended (step.clauses 𝓛 at_mem run) (κ₁, (κ₂, tt)) (asked 𝓛 at_mem run κ₁ κ₂ q₁ q₂ c.choices c.state b₁ o₁ γ₁ ys b₂ o₂ γ₂ ks n) tt r)))) (id⊢ 𝓤 _) $ await ! tt $ pick ! (λ r.
-        split ! $ move ! (1 ∷ []) $ use1 𝓛 (some (λ (zs : Unit {0} × (Unit {0} × (List ℕ × (List Pending × (Unit {0} × Unit {0}))))). ‵ (lasts step.ended (κ₁, (κ₂, tt)) (asked 𝓛 at_mem run κ₁ κ₂ q₁ q₂ c.choices c.state b₁ o₁ γ₁ ys b₂ o₂ γ₂ ks n) zs) ⊛ raw (fact 𝓤 (steppedOver r zs.1.1.0 zs.1.1.1.0 ≡ steps c.choices.mode (rulesOf c.choices) (worldOf c.state ys) (listed n ks))))) (id⊢ 𝓤 _) $ pick ! (λ zs.
-        split ! $ move ! (1 ∷ []) $ heard ! (steppedOver r zs.1.1.0 zs.1.1.1.0 ≡ steps c.choices.mode (rulesOf c.choices) (worldOf c.state ys) (listed n ks)) (λ e. fsplit ! $ drop ! $ fsplit ! $ drop ! $ fsplit ! $ fsplit ! $ move ! (1 ∷ []) $ feq_l ! (λ l. move ! (1 ∷ []) $ fsplit ! $ fsplit ! $ move ! (1 ∷ []) $ feq_l ! (λ l'.
+        split ! $ move ! (1 ∷ []) $ use1 𝓛 (some (λ (zs : Unit {0} × (Unit {0} × (List ℕ × (List Pending × (Unit {0} × Unit {0}))))). ‵ (lasts step.ended (κ₁, (κ₂, tt)) (asked 𝓛 at_mem run κ₁ κ₂ q₁ q₂ c.choices c.state b₁ o₁ γ₁ ys b₂ o₂ γ₂ ks n) zs) ⊛ raw (fact 𝓤 (stepped_over r zs.1.1.0 zs.1.1.1.0 ≡ steps c.choices.mode (rules_of c.choices) (world_of c.state ys) (listed n ks))))) (id⊢ 𝓤 _) $ pick ! (λ zs.
+        split ! $ move ! (1 ∷ []) $ heard ! (stepped_over r zs.1.1.0 zs.1.1.1.0 ≡ steps c.choices.mode (rules_of c.choices) (world_of c.state ys) (listed n ks)) (λ e. fsplit ! $ drop ! $ fsplit ! $ drop ! $ fsplit ! $ fsplit ! $ move ! (1 ∷ []) $ feq_l ! (λ l. move ! (1 ∷ []) $ fsplit ! $ fsplit ! $ move ! (1 ∷ []) $ feq_l ! (λ l'.
         move ! (3 ∷ []) $ split ! $ move ! (1 ∷ []) $ peeks ! N.the_row (Is N.the_row) (shows 𝓛 N.the_row) r (w ∷ []) (λ is.
         land ! (from ! (stop !)) (init ! 20 refl ((LL.lawful N.the_type N'.the_laws 𝓛).typed r _ is).0) $ rewrite ! 20 (λ (u : Val). ‵ (fat full_share N'.mir l₈ 0 u)) (ap only (LL.tells N.the_type N'.the_laws r _ is)) refl $
         -- [what the result owns; the slices' tokens; list's last list; …; m's last list; the cell; what the old one owns; the open borrow; obs; auth; the locals, the last first]
@@ -168,7 +168,7 @@ module _ {M : Type 1} {𝓤 : Ura M} (𝓛 : Logic 𝓤) (at_mem : Memory → SP
         assigns ! (of_opd ! (load ! (from ! (fld ! refl (stop !))) (look_in ! 18 (sub ! 1 refl (whole !))))) (from ! (hop ! (look ! 34 refl) (stop !))) (store_raw ! 5 refl ((LL.lawful L.the_type L'.the_laws 𝓛).typed d.lent _ (parts d w₂ is₂).1).0) $
         assigns ! (of_opd ! (load ! (from ! (fld ! refl (stop !))) (look_in ! 18 (sub ! 0 refl (whole !))))) (from ! (stop !)) (init ! 36 refl ((LL.lawful Q.the_type Q'.the_laws 𝓛).typed d.answer _ (parts d w₂ is₂).0).0) $
         -- the borrow is closed at the new record
-        owned ! L.the_row (Is L.the_row) (LL.makes L.the_type L'.the_plain 𝓛) d.lent _ (parts d w₂ is₂).1 $ move ! (6 ∷ 0 ∷ 8 ∷ 9 ∷ 10 ∷ []) $ closes ! tt L.the_row d.lent (valsL d.lent) b o $
+        owned ! L.the_row (Is L.the_row) (LL.makes L.the_type L'.the_plain 𝓛) d.lent _ (parts d w₂ is₂).1 $ move ! (6 ∷ 0 ∷ 8 ∷ 9 ∷ 10 ∷ []) $ closes ! tt L.the_row d.lent (vals_l d.lent) b o $
         returns ! (look ! 35 refl) $ forget ! 9 refl $ forget ! 11 refl $ forget ! 13 refl $ forget ! 15 refl $ forget ! 17 refl $ forget ! 19 refl $ forget ! 21 refl $ forget ! 23 refl $ forget ! 25 refl $ forget ! 27 refl $ forget ! 29 refl $ forget ! 31 refl $ forget ! 33 refl $ forget ! 35 refl $
         move ! (35 ∷ 36 ∷ []) $ free1 ! $ move ! (33 ∷ 34 ∷ []) $ free1 ! $ move ! (31 ∷ 32 ∷ []) $ free1 ! $ move ! (29 ∷ 30 ∷ []) $ free1 ! $ move ! (27 ∷ 28 ∷ []) $ free1 ! $ move ! (25 ∷ 26 ∷ []) $ free1 ! $ move ! (23 ∷ 24 ∷ []) $ free1 ! $ move ! (21 ∷ 22 ∷ []) $ free1 ! $ move ! (19 ∷ 20 ∷ []) $ free1 ! $ move ! (17 ∷ 18 ∷ []) $ free1 ! $ move ! (15 ∷ 16 ∷ []) $ free1 ! $ move ! (13 ∷ 14 ∷ []) $ free1 ! $ move ! (11 ∷ 12 ∷ []) $ free1 ! $ move ! (9 ∷ 10 ∷ []) $ free1 ! $ free0 ! $
         keep ! (0 ∷ 1 ∷ 2 ∷ 4 ∷ 5 ∷ 7 ∷ []) $ by ! (exits c r d zs.1.1.0 zs.1.1.1.0 _ e₁ e e₂ l l' (parts d w₂ is₂).0))))))))))))))))))))))))))))))))))

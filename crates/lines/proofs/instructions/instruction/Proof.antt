@@ -1,8 +1,8 @@
 use Rattle.lines.proofs.Words.{three-any}
-use Rattle.lines.specs.Code.{labelsIn, isNumbered}
-use Rattle.lines.specs.Reader.{operandsRead}
-use Rattle.lines.specs.Lines.{kindsOf, word_for, sayingOf}
-use Rattle.sums.specs.Code.{lookIn}
+use Rattle.lines.specs.Code.{labels_in, is_numbered}
+use Rattle.lines.specs.Reader.{operands_read}
+use Rattle.lines.specs.Lines.{kinds_of, word_for, saying_of}
+use Rattle.sums.specs.Code.{look_in}
 use Rattle.opcode.proofs.Variants.{forms, form-place, forms-at}
 use Rattle.opcode.proofs.Arms.{arm}
 use Rattle.opcode.specs.declared.Form.TheVariants.{R, I}
@@ -23,14 +23,14 @@ three-registers-requires c κs = sym c.before.before.form_of.ensures ∙ c.enum_
 
 two-and-number-requires : tie.Need-two-and-number-requires
 two-and-number-requires c κs =
-    ap isNumbered (sym c.before.form_of.ensures)
-    ∙ sym (arm forms R form-place forms-at isNumbered true (1 ∷ (2 ∷ (3 ∷ []))) refl c.before.form_of.result c.match.keys2)
+    ap is_numbered (sym c.before.form_of.ensures)
+    ∙ sym (arm forms R form-place forms-at is_numbered true (1 ∷ (2 ∷ (3 ∷ []))) refl c.before.form_of.result c.match.keys2)
 
 enum-told-2 : tie.Need-enum-told-2
 enum-told-2 c = search rules
 
 two-and-number-requires-2 : tie.Need-two-and-number-requires-2
-two-and-number-requires-2 c κs = ap isNumbered (sym c.before.before.form_of.ensures ∙ c.enum-told2.given.1)
+two-and-number-requires-2 c κs = ap is_numbered (sym c.before.before.form_of.ensures ∙ c.enum-told2.given.1)
 
 enum-told-3 : tie.Need-enum-told-3
 enum-told-3 c = search rules
@@ -48,25 +48,25 @@ returns : tie.Need-returns
 returns c =
     let args = c.before.before.before.before.before.before.before.args in
     ap
-    (λ (f : Form). sayingOf
-    (word_for args.op (operandsRead (kindsOf f) (labelsIn args.text.now args.table.now args.own f) (drop args.at args.s.now))))
+    (λ (f : Form). saying_of
+    (word_for args.op (operands_read (kinds_of f) (labels_in args.text.now args.table.now args.own f) (drop args.at args.s.now))))
     (sym c.before.before.before.form_of.ensures ∙ c.before.enum_told.given.1)
-    ∙ ap (λ (o : Option (List ℤ)). sayingOf (word_for args.op o))
-    (three-any (lookIn args.text.now args.table.now 0) (lookIn [] [] 0) (drop args.at args.s.now))
+    ∙ ap (λ (o : Option (List ℤ)). saying_of (word_for args.op o))
+    (three-any (look_in args.text.now args.table.now 0) (look_in [] [] 0) (drop args.at args.s.now))
     ∙ c.three-registers.ensures
 
 returns-2 : tie.Need-returns-2
 returns-2 c =
     let args = c.before.before.before.before.before.before.args in
     ap
-    (λ (f : Form). sayingOf
-    (word_for args.op (operandsRead (kindsOf f) (labelsIn args.text.now args.table.now args.own f) (drop args.at args.s.now))))
+    (λ (f : Form). saying_of
+    (word_for args.op (operands_read (kinds_of f) (labels_in args.text.now args.table.now args.own f) (drop args.at args.s.now))))
     (sym c.before.before.form_of.ensures)
     ∙ sym
     (arm forms R form-place forms-at
-    (λ (f : Form). sayingOf
-    (word_for args.op (operandsRead (kindsOf f) (labelsIn args.text.now args.table.now args.own f) (drop args.at args.s.now))))
-    (sayingOf (word_for args.op (operandsRead (kindsOf I) (lookIn args.text.now args.table.now 0) (drop args.at args.s.now))))
+    (λ (f : Form). saying_of
+    (word_for args.op (operands_read (kinds_of f) (labels_in args.text.now args.table.now args.own f) (drop args.at args.s.now))))
+    (saying_of (word_for args.op (operands_read (kinds_of I) (look_in args.text.now args.table.now 0) (drop args.at args.s.now))))
     (1 ∷ (2 ∷ (3 ∷ []))) refl c.before.before.form_of.result c.before.match.keys2)
     ∙ c.two-and-number.ensures
 
@@ -74,8 +74,8 @@ returns-3 : tie.Need-returns-3
 returns-3 c =
     let args = c.before.before.before.before.before.before.before.args in
     ap
-    (λ (f : Form). sayingOf
-    (word_for args.op (operandsRead (kindsOf f) (labelsIn args.text.now args.table.now args.own f) (drop args.at args.s.now))))
+    (λ (f : Form). saying_of
+    (word_for args.op (operands_read (kinds_of f) (labels_in args.text.now args.table.now args.own f) (drop args.at args.s.now))))
     (sym c.before.before.before.form_of.ensures ∙ c.before.enum-told2.given.1)
     ∙ c.two-and-number2.ensures
 
@@ -83,18 +83,18 @@ returns-4 : tie.Need-returns-4
 returns-4 c =
     let args = c.before.before.before.before.before.before.before.args in
     ap
-    (λ (f : Form). sayingOf
-    (word_for args.op (operandsRead (kindsOf f) (labelsIn args.text.now args.table.now args.own f) (drop args.at args.s.now))))
+    (λ (f : Form). saying_of
+    (word_for args.op (operands_read (kinds_of f) (labels_in args.text.now args.table.now args.own f) (drop args.at args.s.now))))
     (sym c.before.before.before.form_of.ensures ∙ c.before.enum-told3.given.1)
     ∙ c.one-and-number.ensures
 
 returns-5 : tie.Need-returns-5
-unfolding operandsRead
+unfolding operands_read
 returns-5 c =
     let args = c.before.before.before.before.before.before.before.args in
     ap
-    (λ (f : Form). sayingOf
-    (word_for args.op (operandsRead (kindsOf f) (labelsIn args.text.now args.table.now args.own f) (drop args.at args.s.now))))
+    (λ (f : Form). saying_of
+    (word_for args.op (operands_read (kinds_of f) (labels_in args.text.now args.table.now args.own f) (drop args.at args.s.now))))
     (sym c.before.before.before.form_of.ensures ∙ c.before.enum-told4.given.1)
     ∙ c.nothing-more.ensures
 

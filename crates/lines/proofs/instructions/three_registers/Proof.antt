@@ -1,7 +1,7 @@
 use Rattle.lines.proofs.Words.{first-bad, first-got, last_none, last_some, none-word, some_word, parts-three}
-use Rattle.lines.specs.Code.{regSeen}
+use Rattle.lines.specs.Code.{reg_seen}
 use Rattle.lines.specs.Lines.{register, parts}
-use Rattle.sums.specs.Code.{lookIn}
+use Rattle.sums.specs.Code.{look_in}
 use Rattle.std.proofs.Common.{[], ◌∷◌, drop, pos, ap, ◌∙◌, rules}
 use mathlib.Core.Option.{none, some}
 use Rattle.lines.proofs.instructions.three_registers.Statement.{statement}
@@ -20,8 +20,8 @@ returns : tie.Need-returns
 returns c =
     let args = c.before.before.before.before.args in
     none-word args.op _
-    (first-bad (lookIn [] [] 0) register register (register ∷ []) (drop args.at args.s.now)
-    (c.before.before.register-comma.ensures.0 ∙ ap (regSeen args.s.now) c.enum_told.given.1))
+    (first-bad (look_in [] [] 0) register register (register ∷ []) (drop args.at args.s.now)
+    (c.before.before.register-comma.ensures.0 ∙ ap (reg_seen args.s.now) c.enum_told.given.1))
 
 register-comma-requires-2 : tie.Need-register-comma-requires-2
 register-comma-requires-2 c κs = search rules
@@ -36,13 +36,13 @@ returns-2 : tie.Need-returns-2
 returns-2 c =
     let args = c.before.before.before.before.before.before.before.before.args in
     let s = args.s.now in
-    let look = lookIn [] [] 0 in
+    let look = look_in [] [] 0 in
     none-word args.op _
     (first-got look register register (register ∷ []) (drop args.at s) (pos c.before.before.before.before.a.given.0.0)
     (drop c.before.before.before.before.a.given.0.1.0 s) none
-    (c.before.before.before.before.before.before.register-comma.ensures.0 ∙ ap (regSeen s) c.before.before.before.before.a.given.1)
+    (c.before.before.before.before.before.before.register-comma.ensures.0 ∙ ap (reg_seen s) c.before.before.before.before.a.given.1)
     (first-bad look register register [] (drop c.before.before.before.before.a.given.0.1.0 s)
-    (c.before.before.register-comma2.ensures.0 ∙ ap (regSeen s) c.enum-told2.given.1)))
+    (c.before.before.register-comma2.ensures.0 ∙ ap (reg_seen s) c.enum-told2.given.1)))
 
 register-last-requires : tie.Need-register-last-requires
 register-last-requires c κs = search rules
@@ -57,18 +57,18 @@ returns-3 : tie.Need-returns-3
 returns-3 c =
     let args = c.before.before.before.before.before.before.before.before.before.before.before.before.args in
     let s = args.s.now in
-    let look = lookIn [] [] 0 in
+    let look = look_in [] [] 0 in
     none-word args.op _
     (first-got look register register (register ∷ []) (drop args.at s)
     (pos c.before.before.before.before.before.before.before.before.a.given.0.0)
     (drop c.before.before.before.before.before.before.before.before.a.given.0.1.0 s) none
     (c.before.before.before.before.before.before.before.before.before.before.register-comma.ensures.0
-    ∙ ap (regSeen s) c.before.before.before.before.before.before.before.before.a.given.1)
+    ∙ ap (reg_seen s) c.before.before.before.before.before.before.before.before.a.given.1)
     (first-got look register register [] (drop c.before.before.before.before.before.before.before.before.a.given.0.1.0 s)
     (pos c.before.before.before.before.b.given.0.0) (drop c.before.before.before.before.b.given.0.1.0 s) none
-    (c.before.before.before.before.before.before.register-comma2.ensures.0 ∙ ap (regSeen s) c.before.before.before.before.b.given.1)
+    (c.before.before.before.before.before.before.register-comma2.ensures.0 ∙ ap (reg_seen s) c.before.before.before.before.b.given.1)
     (last_none look register (drop c.before.before.before.before.b.given.0.1.0 s)
-    (c.before.before.register-last.ensures.0 ∙ ap (regSeen s) c.enum-told3.given.1))))
+    (c.before.before.register-last.ensures.0 ∙ ap (reg_seen s) c.enum-told3.given.1))))
 
 word-requires : tie.Need-word-requires
 word-requires c κs = search rules
@@ -77,7 +77,7 @@ returns-4 : tie.Need-returns-4
 returns-4 c =
     let args = c.before.before.before.before.before.before.before.before.before.before.before.before.before.before.args in
     let s = args.s.now in
-    let look = lookIn [] [] 0 in
+    let look = look_in [] [] 0 in
     let a = c.before.before.before.before.before.before.before.before.before.before.a.given.0.0 in
     let b = c.before.before.before.before.before.before.b.given.0.0 in
     let d = c.before.before.c.given.0.0 in
@@ -85,14 +85,14 @@ returns-4 c =
     (first-got look register register (register ∷ []) (drop args.at s) (pos a)
     (drop c.before.before.before.before.before.before.before.before.before.before.a.given.0.1.0 s) (some (pos b ∷ (pos d ∷ [])))
     (c.before.before.before.before.before.before.before.before.before.before.before.before.register-comma.ensures.0
-    ∙ ap (regSeen s) c.before.before.before.before.before.before.before.before.before.before.a.given.1)
+    ∙ ap (reg_seen s) c.before.before.before.before.before.before.before.before.before.before.a.given.1)
     (first-got look register register []
     (drop c.before.before.before.before.before.before.before.before.before.before.a.given.0.1.0 s) (pos b)
     (drop c.before.before.before.before.before.before.b.given.0.1.0 s) (some (pos d ∷ []))
     (c.before.before.before.before.before.before.before.before.register-comma2.ensures.0
-    ∙ ap (regSeen s) c.before.before.before.before.before.before.b.given.1)
+    ∙ ap (reg_seen s) c.before.before.before.before.before.before.b.given.1)
     (last_some look register (drop c.before.before.before.before.before.before.b.given.0.1.0 s) (pos d) _
-    (c.before.before.before.before.register-last.ensures.0 ∙ ap (regSeen s) c.before.before.c.given.1))))
+    (c.before.before.before.before.register-last.ensures.0 ∙ ap (reg_seen s) c.before.before.c.given.1))))
     (parts-three args.op a b d
     c.before.before.before.before.before.before.before.before.before.before.before.before.before.before.requires)
     ∙ c.word.ensures

@@ -1,7 +1,7 @@
 use Rattle.lines.proofs.Words.{first-bad, first-got, last_none, last_some, register-any, none-word, some_word, parts-two}
-use Rattle.lines.specs.Code.{regSeen}
+use Rattle.lines.specs.Code.{reg_seen}
 use Rattle.lines.specs.Lines.{register, immediate, parts}
-use Rattle.sums.specs.Code.{lookIn, of64, readTo}
+use Rattle.sums.specs.Code.{look_in, of64, read_to}
 use Rattle.std.proofs.Common.{[], ◌∷◌, drop, pos, ap, ◌∙◌, rules}
 use mathlib.Core.Option.{none, some}
 use Rattle.lines.proofs.instructions.two_and_number.Statement.{statement}
@@ -20,10 +20,10 @@ returns : tie.Need-returns
 returns c =
     let args = c.before.before.before.before.before.before.args in
     let s = args.s.now in
-    let look = lookIn args.text.now args.table.now args.base in
+    let look = look_in args.text.now args.table.now args.base in
     none-word args.op _
     (first-bad look register register (immediate ∷ []) (drop args.at s)
-    (register-any look (lookIn [] [] 0) _ _ (c.before.before.register-comma.ensures.0 ∙ ap (regSeen s) c.enum_told.given.1)))
+    (register-any look (look_in [] [] 0) _ _ (c.before.before.register-comma.ensures.0 ∙ ap (reg_seen s) c.enum_told.given.1)))
 
 register-comma-requires-2 : tie.Need-register-comma-requires-2
 register-comma-requires-2 c κs = search rules
@@ -38,14 +38,14 @@ returns-2 : tie.Need-returns-2
 returns-2 c =
     let args = c.before.before.before.before.before.before.before.before.before.before.args in
     let s = args.s.now in
-    let look = lookIn args.text.now args.table.now args.base in
+    let look = look_in args.text.now args.table.now args.base in
     none-word args.op _
     (first-got look register register (immediate ∷ []) (drop args.at s) (pos c.before.before.before.before.a.given.0.0)
     (drop c.before.before.before.before.a.given.0.1.0 s) none
-    (register-any look (lookIn [] [] 0) _ _
-    (c.before.before.before.before.before.before.register-comma.ensures.0 ∙ ap (regSeen s) c.before.before.before.before.a.given.1))
+    (register-any look (look_in [] [] 0) _ _
+    (c.before.before.before.before.before.before.register-comma.ensures.0 ∙ ap (reg_seen s) c.before.before.before.before.a.given.1))
     (first-bad look register immediate [] (drop c.before.before.before.before.a.given.0.1.0 s)
-    (register-any look (lookIn [] [] 0) _ _ (c.before.before.register-comma2.ensures.0 ∙ ap (regSeen s) c.enum-told2.given.1))))
+    (register-any look (look_in [] [] 0) _ _ (c.before.before.register-comma2.ensures.0 ∙ ap (reg_seen s) c.enum-told2.given.1))))
 
 number-last-requires : tie.Need-number-last-requires
 number-last-requires c κs = search rules
@@ -60,20 +60,20 @@ returns-3 : tie.Need-returns-3
 returns-3 c =
     let args = c.before.before.before.before.before.before.before.before.before.before.before.before.before.before.args in
     let s = args.s.now in
-    let look = lookIn args.text.now args.table.now args.base in
+    let look = look_in args.text.now args.table.now args.base in
     none-word args.op _
     (first-got look register register (immediate ∷ []) (drop args.at s)
     (pos c.before.before.before.before.before.before.before.before.a.given.0.0)
     (drop c.before.before.before.before.before.before.before.before.a.given.0.1.0 s) none
-    (register-any look (lookIn [] [] 0) _ _
+    (register-any look (look_in [] [] 0) _ _
     (c.before.before.before.before.before.before.before.before.before.before.register-comma.ensures.0
-    ∙ ap (regSeen s) c.before.before.before.before.before.before.before.before.a.given.1))
+    ∙ ap (reg_seen s) c.before.before.before.before.before.before.before.before.a.given.1))
     (first-got look register immediate [] (drop c.before.before.before.before.before.before.before.before.a.given.0.1.0 s)
     (pos c.before.before.before.before.b.given.0.0) (drop c.before.before.before.before.b.given.0.1.0 s) none
-    (register-any look (lookIn [] [] 0) _ _
-    (c.before.before.before.before.before.before.register-comma2.ensures.0 ∙ ap (regSeen s) c.before.before.before.before.b.given.1))
+    (register-any look (look_in [] [] 0) _ _
+    (c.before.before.before.before.before.before.register-comma2.ensures.0 ∙ ap (reg_seen s) c.before.before.before.before.b.given.1))
     (last_none look immediate (drop c.before.before.before.before.b.given.0.1.0 s)
-    (c.before.before.number-last.ensures ∙ ap (readTo s) c.enum-told3.given.1))))
+    (c.before.before.number-last.ensures ∙ ap (read_to s) c.enum-told3.given.1))))
 
 bits-requires : tie.Need-bits-requires
 bits-requires c κs = search rules
@@ -86,24 +86,24 @@ returns-4 c =
     let args =
     c.before.before.before.before.before.before.before.before.before.before.before.before.before.before.before.before.before.args in
     let s = args.s.now in
-    let look = lookIn args.text.now args.table.now args.base in
+    let look = look_in args.text.now args.table.now args.base in
     let a = c.before.before.before.before.before.before.before.before.before.before.before.a.given.0.0 in
     let b = c.before.before.before.before.before.before.before.b.given.0.0 in
     let v = of64 c.before.before.before.v.given.0.0 in
     some_word args.op _ (pos a ∷ (pos b ∷ (v ∷ []))) (parts args.op a b 0 c.before.bits.result)
     (first-got look register register (immediate ∷ []) (drop args.at s) (pos a)
     (drop c.before.before.before.before.before.before.before.before.before.before.before.a.given.0.1.0 s) (some (pos b ∷ (v ∷ [])))
-    (register-any look (lookIn [] [] 0) _ _
+    (register-any look (look_in [] [] 0) _ _
     (c.before.before.before.before.before.before.before.before.before.before.before.before.before.register-comma.ensures.0
-    ∙ ap (regSeen s) c.before.before.before.before.before.before.before.before.before.before.before.a.given.1))
+    ∙ ap (reg_seen s) c.before.before.before.before.before.before.before.before.before.before.before.a.given.1))
     (first-got look register immediate []
     (drop c.before.before.before.before.before.before.before.before.before.before.before.a.given.0.1.0 s) (pos b)
     (drop c.before.before.before.before.before.before.before.b.given.0.1.0 s) (some (v ∷ []))
-    (register-any look (lookIn [] [] 0) _ _
+    (register-any look (look_in [] [] 0) _ _
     (c.before.before.before.before.before.before.before.before.before.register-comma2.ensures.0
-    ∙ ap (regSeen s) c.before.before.before.before.before.before.before.b.given.1))
+    ∙ ap (reg_seen s) c.before.before.before.before.before.before.before.b.given.1))
     (last_some look immediate (drop c.before.before.before.before.before.before.before.b.given.0.1.0 s) v _
-    (c.before.before.before.before.before.number-last.ensures ∙ ap (readTo s) c.before.before.before.v.given.1))))
+    (c.before.before.before.before.before.number-last.ensures ∙ ap (read_to s) c.before.before.before.v.given.1))))
     (parts-two args.op a b v c.before.bits.result
     c.before.before.before.before.before.before.before.before.before.before.before.before.before.before.before.before.before.requires
     c.before.bits.ensures)

@@ -1,10 +1,10 @@
 use Rattle.lines.proofs.Steps.{reg-none, reg-bad, reg-two, reg-one, two-bounds}
-use Rattle.lines.specs.Code.{isTwo}
+use Rattle.lines.specs.Code.{is_two}
 use Rattle.sums.proofs.Terms.{at_byte}
 use Rattle.labels.proofs.Steps.{class-inside}
 use Rattle.labels.proofs.Classes.{digit_low}
 use Rattle.labels.proofs.Spans.{inside}
-use Rattle.labels.specs.Bytes.{head_of, isDigit}
+use Rattle.labels.specs.Bytes.{head_of, is_digit}
 use Rattle.sums.specs.Reader.{got}
 use borrow.Author.Tests.{not-true, not-false}
 use Rattle.std.proofs.Common.{ℕ, ◌+◌, ◌-◌, drop, pos, sym, refl, ap, ◌∙◌, arith, rules}
@@ -30,7 +30,7 @@ returns-2 : tie.Need-returns-2
 returns-2 c =
     let args = c.before.before.before.before.before.before.args in (
       reg-bad args.s.now args.at (sym c.before.before.before.before.byte.ensures ∙ c.before.before.before.if1.false)
-          (sym (c.before.digit.ensures ∙ ap isDigit c.before.before.byte2.ensures) ∙ not-true _ c.if2.true),
+          (sym (c.before.digit.ensures ∙ ap is_digit c.before.before.byte2.ensures) ∙ not-true _ c.if2.true),
       tt,
     )
 
@@ -39,8 +39,8 @@ add-byte-2 c =
     let args = c.before.before.before.before.before.before.args in
     omega (
       arith,
-      class-inside isDigit args.s.now (args.at + 1) refl
-          (sym (c.before.digit.ensures ∙ ap isDigit c.before.before.byte2.ensures) ∙ not-false _ c.if2.false),
+      class-inside is_digit args.s.now (args.at + 1) refl
+          (sym (c.before.digit.ensures ∙ ap is_digit c.before.before.byte2.ensures) ∙ not-false _ c.if2.false),
     )
 
 byte-requires-3 : tie.Need-byte-requires-3
@@ -68,8 +68,8 @@ returns-3 c =
     (sym c.before.teen.ensures ∙ c.if3.true) in (
       reg-two args.s.now args.at
           (sym c.before.before.before.before.before.before.before.byte.ensures ∙ c.before.before.before.before.before.before.if1.false)
-          (ap (λ (x : ℕ). isTwo x (head_of (drop (args.at + 2) args.s.now))) (sym c.before.before.before.before.before.byte2.ensures)
-          ∙ ap (isTwo c.before.before.before.before.before.byte2.result) (sym c.before.before.byte3.ensures)
+          (ap (λ (x : ℕ). is_two x (head_of (drop (args.at + 2) args.s.now))) (sym c.before.before.before.before.before.byte2.ensures)
+          ∙ ap (is_two c.before.before.before.before.before.byte2.result) (sym c.before.before.byte3.ensures)
           ∙ sym c.before.teen.ensures
           ∙ c.if3.true)
           ∙ ap (λ (x : ℕ). got (pos (x - 38)) (drop (args.at + 3) args.s.now)) (sym c.before.before.byte3.ensures),
@@ -84,8 +84,8 @@ add-t7 c =
     let args = c.before.before.before.before.before.before.before.before.before.args in
     omega (
       arith,
-      class-inside isDigit args.s.now (args.at + 1) refl
-          (sym (c.before.before.before.before.digit.ensures ∙ ap isDigit c.before.before.before.before.before.byte2.ensures)
+      class-inside is_digit args.s.now (args.at + 1) refl
+          (sym (c.before.before.before.before.digit.ensures ∙ ap is_digit c.before.before.before.before.before.byte2.ensures)
           ∙ not-false _ c.before.before.before.if2.false),
     )
 
@@ -94,17 +94,17 @@ returns-4 c =
     let args = c.before.before.before.before.before.before.before.before.before.args in (
       reg-one args.s.now args.at
           (sym c.before.before.before.before.before.before.before.byte.ensures ∙ c.before.before.before.before.before.before.if1.false)
-          (ap (λ (x : ℕ). isTwo x (head_of (drop (args.at + 2) args.s.now))) (sym c.before.before.before.before.before.byte2.ensures)
-          ∙ ap (isTwo c.before.before.before.before.before.byte2.result) (sym c.before.before.byte3.ensures)
+          (ap (λ (x : ℕ). is_two x (head_of (drop (args.at + 2) args.s.now))) (sym c.before.before.before.before.before.byte2.ensures)
+          ∙ ap (is_two c.before.before.before.before.before.byte2.result) (sym c.before.before.byte3.ensures)
           ∙ sym c.before.teen.ensures
           ∙ c.if3.false)
-          (sym (c.before.before.before.before.digit.ensures ∙ ap isDigit c.before.before.before.before.before.byte2.ensures)
+          (sym (c.before.before.before.before.digit.ensures ∙ ap is_digit c.before.before.before.before.before.byte2.ensures)
           ∙ not-false _ c.before.before.before.if2.false)
           ∙ ap (λ (x : ℕ). got (pos (x - 48)) (drop (args.at + 2) args.s.now)) (sym c.before.before.before.before.before.byte2.ensures),
       omega (
         arith,
-        class-inside isDigit args.s.now (args.at + 1) refl
-            (sym (c.before.before.before.before.digit.ensures ∙ ap isDigit c.before.before.before.before.before.byte2.ensures)
+        class-inside is_digit args.s.now (args.at + 1) refl
+            (sym (c.before.before.before.before.digit.ensures ∙ ap is_digit c.before.before.before.before.before.byte2.ensures)
             ∙ not-false _ c.before.before.before.if2.false),
       ),
     )

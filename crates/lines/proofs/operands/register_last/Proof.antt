@@ -1,10 +1,10 @@
-use Rattle.labels.specs.Bytes.{isSpace}
+use Rattle.labels.specs.Bytes.{is_space}
 use Rattle.labels.proofs.Steps.{passed}
 use Rattle.lines.proofs.Steps.{last-bad, last-no, last-yes, operand-bad, operand-reg}
 use Rattle.lines.specs.Code.{Within}
 use Rattle.lines.specs.Lines.{register}
 use Rattle.std.proofs.Common.{[], subst, rules}
-use Rattle.sums.specs.Code.{lookIn}
+use Rattle.sums.specs.Code.{look_in}
 use Rattle.lines.proofs.operands.register_last.Statement.{statement}
 use Rattle.lines.proofs.operands.register_last.Tie as tie
 
@@ -23,9 +23,9 @@ enum_told c = search rules
 returns : tie.Need-returns
 returns c =
     let args = c.before.before.before.before.before.args in (
-      last-bad register (lookIn [] [] 0) args.s.now args.at c.before.before.before.skip.result
-          (passed isSpace _ _ _ c.before.before.before.skip.ensures)
-          (operand-bad (lookIn [] [] 0) args.s.now c.before.before.before.skip.result c.before.before.register.result
+      last-bad register (look_in [] [] 0) args.s.now args.at c.before.before.before.skip.result
+          (passed is_space _ _ _ c.before.before.before.skip.ensures)
+          (operand-bad (look_in [] [] 0) args.s.now c.before.before.before.skip.result c.before.before.register.result
           c.before.before.register.ensures.0 c.enum_told.given.1),
       tt,
     )
@@ -36,11 +36,11 @@ skip-requires-2 c κs = search rules
 returns-2 : tie.Need-returns-2
 returns-2 c =
     let args = c.before.before.before.before.before.before.before.before.args in (
-      last-no register (lookIn [] [] 0) args.s.now args.at c.before.before.before.before.before.before.skip.result
-          (passed isSpace _ _ _ c.before.before.before.before.before.before.skip.ensures) _ c.before.skip2.result
-          (operand-reg (lookIn [] [] 0) args.s.now c.before.before.before.before.before.before.skip.result
+      last-no register (look_in [] [] 0) args.s.now args.at c.before.before.before.before.before.before.skip.result
+          (passed is_space _ _ _ c.before.before.before.before.before.before.skip.ensures) _ c.before.skip2.result
+          (operand-reg (look_in [] [] 0) args.s.now c.before.before.before.before.before.before.skip.result
           c.before.before.before.before.before.register.result c.before.before.before.before.before.register.ensures.0 _ _
-          c.before.skip2.result c.before.before.before.r.given.1 (passed isSpace _ _ _ c.before.skip2.ensures))
+          c.before.skip2.result c.before.before.before.r.given.1 (passed is_space _ _ _ c.before.skip2.ensures))
           c.if1.true,
       tt,
     )
@@ -48,13 +48,13 @@ returns-2 c =
 returns-3 : tie.Need-returns-3
 returns-3 c =
     let args = c.before.before.before.before.before.before.before.before.args in (
-      last-yes register (lookIn [] [] 0) args.s.now args.at c.before.before.before.before.before.before.skip.result
-          (passed isSpace _ _ _ c.before.before.before.before.before.before.skip.ensures) _ c.before.skip2.result
-          (operand-reg (lookIn [] [] 0) args.s.now c.before.before.before.before.before.before.skip.result
+      last-yes register (look_in [] [] 0) args.s.now args.at c.before.before.before.before.before.before.skip.result
+          (passed is_space _ _ _ c.before.before.before.before.before.before.skip.ensures) _ c.before.skip2.result
+          (operand-reg (look_in [] [] 0) args.s.now c.before.before.before.before.before.before.skip.result
           c.before.before.before.before.before.register.result c.before.before.before.before.before.register.ensures.0 _ _
-          c.before.skip2.result c.before.before.before.r.given.1 (passed isSpace _ _ _ c.before.skip2.ensures))
+          c.before.skip2.result c.before.before.before.r.given.1 (passed is_space _ _ _ c.before.skip2.ensures))
           c.if1.false,
-      (passed isSpace _ _ _ c.before.skip2.ensures).within
+      (passed is_space _ _ _ c.before.skip2.ensures).within
           (subst (Within args.s.now) c.before.before.before.r.given.1 c.before.before.before.before.before.register.ensures.1),
     )
 

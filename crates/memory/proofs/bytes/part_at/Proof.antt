@@ -1,7 +1,7 @@
 use lib.ListN.{length}
 use mathlib.Core.Path.{◌≡◌, sym, ◌∙◌}
 use Prim.Native.Nat.{◌-◌, min}
-use Rattle.memory.specs.Bytes.{numberOfBytes}
+use Rattle.memory.specs.Bytes.{number_of_bytes}
 use Rattle.memory.proofs.Numbers.{read-there}
 use native.Mathlib.Omega.{arith}
 use borrow.Author.Rules.{rules}
@@ -12,7 +12,7 @@ there-requires : tie.Need-there-requires
 there-requires c κs = search rules
 
 returns : tie.Need-returns
-unfolding numberOfBytes
+unfolding number_of_bytes
 returns c = let a = c.before.before.before.args in
     let none : min (min a.n 8) (length a.m.now - a.at) ≡ 0 = omega arith in
     sym (read-there (min a.n 8) a.m.now a.at ∙ rw none)

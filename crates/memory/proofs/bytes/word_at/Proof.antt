@@ -6,19 +6,19 @@ use native.Mathlib.Nat.{sub_self, sub-zero, add-zero}
 use lib.Dec.{lit<}
 use borrow.Author.Rules.{rules}
 use lib.ListN.{take, drop, get_or}
-use Rattle.memory.specs.Bytes.{numberOfBytes}
+use Rattle.memory.specs.Bytes.{number_of_bytes}
 use Rattle.memory.proofs.Numbers.{read_more, more_lt, fits_lt}
 use Rattle.memory.proofs.bytes.word_at.Statement.{statement}
 use Rattle.memory.proofs.bytes.word_at.Tie as tie
 
 abbrev invariant-loop : tie.invariant-loop
-invariant-loop m at n v₀ i₀ v i = (i ≤ n) × (v ≡ numberOfBytes (take (n - i) (drop (at + i) m))) × (v < 256 ^ (n - i))
+invariant-loop m at n v₀ i₀ v i = (i ≤ n) × (v ≡ number_of_bytes (take (n - i) (drop (at + i) m))) × (v < 256 ^ (n - i))
 
 abbrev decreases-loop : tie.decreases-loop
 decreases-loop m at n v₀ i₀ v i = i
 
 loop-holds : tie.Need-loop-init invariant-loop decreases-loop
-unfolding numberOfBytes
+unfolding number_of_bytes
 loop-holds c = rw sub_self (search rules, refl, lit< tt)
 
 sub-i : tie.Need-overflow-sub-i invariant-loop decreases-loop

@@ -3,13 +3,13 @@ use Prim.Native.Nat.{◌+◌, ◌≤◌}
 use mathlib.Core.Path.{◌≡◌, ap}
 use native.Mathlib.Omega.{arith}
 use lib.ListN.{length}
-use Rattle.printing.specs.Print.{digitsBy}
+use Rattle.printing.specs.Print.{digits_by}
 use Rattle.printing.proofs.Decimals.{one-digit, length_more, length_most}
 use Rattle.printing.proofs.digits.count_digits.Statement.{statement}
 use Rattle.printing.proofs.digits.count_digits.Tie as tie
 
 abbrev invariant-loop : tie.invariant-loop
-invariant-loop n rest₀ count₀ rest count = (rest ≤ n) × (count + length (digitsBy 20 rest) ≡ length (digitsBy 20 n) + 1)
+invariant-loop n rest₀ count₀ rest count = (rest ≤ n) × (count + length (digits_by 20 rest) ≡ length (digits_by 20 n) + 1)
 
 abbrev decreases-loop : tie.decreases-loop
 decreases-loop n rest₀ count₀ rest count = rest
@@ -28,7 +28,7 @@ loop-again c = let more = length_more c.before.loop.rest (omega arith) (omega ar
 
 returns : tie.Need-returns invariant-loop decreases-loop
 returns c =
-    let one : length (digitsBy 20 c.before.loop.rest) ≡ 1 = ap length (one-digit 19 c.before.loop.rest (omega arith)) in
+    let one : length (digits_by 20 c.before.loop.rest) ≡ 1 = ap length (one-digit 19 c.before.loop.rest (omega arith)) in
     omega (arith, length_most 20 c.before.before.args.n)
 
 pub count-digits-spec : {M : Type 1} → statement M

@@ -5,7 +5,7 @@ use native.Mathlib.Omega.{arith}
 use borrow.Author.Rules.{rules}
 use lib.ListN.{length, length-set}
 use lib.Seq.{sets}
-use Rattle.printing.specs.Print.{digitsBy}
+use Rattle.printing.specs.Print.{digits_by}
 use Rattle.printing.proofs.Decimals.{one-digit, more-digits, length_more, length-least}
 use Rattle.printing.proofs.Pieces.{sets_last}
 use Rattle.printing.proofs.digits.put_digits.Statement.{statement}
@@ -13,8 +13,8 @@ use Rattle.printing.proofs.digits.put_digits.Tie as tie
 
 abbrev invariant-loop : tie.invariant-loop
 invariant-loop text₀ at n end rest₀ i₀ text rest i =
-    (length text ≡ length text₀) × (rest ≤ n) × (i < length text₀) × (i + 1 ≡ at + length (digitsBy 20 rest))
-    × (sets text at (digitsBy 20 rest) ≡ sets text₀ at (digitsBy 20 n))
+    (length text ≡ length text₀) × (rest ≤ n) × (i < length text₀) × (i + 1 ≡ at + length (digits_by 20 rest))
+    × (sets text at (digits_by 20 rest) ≡ sets text₀ at (digits_by 20 n))
 
 abbrev decreases-loop : tie.decreases-loop
 decreases-loop text₀ at n end rest₀ i₀ text rest i = rest
@@ -55,12 +55,12 @@ loop-again c =
     let rest = l.rest in
     let some = length-least 19 (rest / 10) in
     let long = length_more rest (omega arith) (omega arith) in
-    let here : l.i ≡ at + length (digitsBy 20 (rest / 10)) = omega arith in (
+    let here : l.i ≡ at + length (digits_by 20 (rest / 10)) = omega arith in (
       simp length-set l.invariant.0,
       omega arith,
       omega arith,
       omega arith,
-      rw (here, sets_last l.text at (digitsBy 20 (rest / 10)) (48 + rest % 10), ← more-digits rest (omega arith) (omega arith)) l.invariant.4,
+      rw (here, sets_last l.text at (digits_by 20 (rest / 10)) (48 + rest % 10), ← more-digits rest (omega arith) (omega arith)) l.invariant.4,
     )
 
 cast-text-2 : tie.Need-overflow-cast-text-2 invariant-loop decreases-loop

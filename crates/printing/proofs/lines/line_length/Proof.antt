@@ -1,7 +1,7 @@
 use native.Mathlib.Omega.{arith}
 use borrow.Author.Rules.{rules}
 use lib.ListN.{length-append}
-use Rattle.printing.specs.Print.{printLine}
+use Rattle.printing.specs.Print.{print_line}
 use Rattle.printing.proofs.lines.line_length.Statement.{statement}
 use Rattle.printing.proofs.lines.line_length.Tie as tie
 
@@ -21,7 +21,7 @@ add-result-2 : tie.Need-overflow-add-result-2
 add-result-2 c = search rules
 
 returns : tie.Need-returns
-unfolding printLine
+unfolding print_line
 returns c =
     let operands = rw c.before.form_of.ensures at c.operands-length.ensures.0 in
     simp length-append (omega arith)

@@ -1,7 +1,7 @@
 use borrow.Author.Rules.{rules}
 use mathlib.Core.Path.{◌≡◌}
-use Rattle.names.specs.Names.{nameOf}
-use Rattle.printing.specs.Passes.{lettersOf}
+use Rattle.names.specs.Names.{name_of}
+use Rattle.printing.specs.Passes.{letters_of}
 use Rattle.printing.proofs.Names.{name-letters}
 use Rattle.printing.proofs.lines.put_name.Statement.{statement}
 use Rattle.printing.proofs.lines.put_name.Tie as tie
@@ -23,7 +23,7 @@ returns c =
     let size = c.before.before.before.before.before.letters in
     let name = c.before.before.before.name_of in
     let op = c.before.before.before.before.before.before.before.args.op in
-    let is : lettersOf size.result name.result ≡ nameOf op = rw (size.ensures.0, name.ensures) (name-letters op) in
+    let is : letters_of size.result name.result ≡ name_of op = rw (size.ensures.0, name.ensures) (name-letters op) in
     rw is at c.before.before.put-key.ensures
 
 pub put-name-spec : {M : Type 1} → statement M

@@ -5,17 +5,17 @@ use native.Mathlib.Nat.{sub-zero}
 use native.Mathlib.Omega.{arith}
 use borrow.Author.Rules.{rules}
 use lib.ListN.{length}
-use Rattle.printing.specs.Print.{printOf}
-use Rattle.printing.specs.Passes.{allWords, roomAfter}
+use Rattle.printing.specs.Print.{print_of}
+use Rattle.printing.specs.Passes.{all_words, room_after}
 use Rattle.printing.proofs.Rooms.{room-more, room-none}
-use Rattle.printing.proofs.Words.{wordsFrom, words-none}
+use Rattle.printing.proofs.Words.{words_from, words-none}
 use Rattle.printing.proofs.measure.measure.Statement.{statement}
 use Rattle.printing.proofs.measure.measure.Tie as tie
 
 abbrev invariant-loop : tie.invariant-loop
 invariant-loop words room left₀ at₀ left at =
     (at ≤ length words) × ((length words - at) % 4 ≡ 0)
-    × (roomAfter (printOf (wordsFrom at words)) left ≡ roomAfter (printOf (allWords words)) room)
+    × (room_after (print_of (words_from at words)) left ≡ room_after (print_of (all_words words)) room)
 
 abbrev decreases-loop : tie.decreases-loop
 decreases-loop words room left₀ at₀ left at = length words - at
@@ -24,7 +24,7 @@ loop-holds : tie.Need-loop-init invariant-loop decreases-loop
 loop-holds c = (omega arith, omega arith, rw sub-zero)
 
 returns : tie.Need-returns invariant-loop decreases-loop
-unfolding printOf
+unfolding print_of
 returns c = rw (words-none c.before.loop.at c.before.before.before.args.words.now (omega arith), sub-zero) at c.before.loop.invariant.2
 
 parts-at-requires : tie.Need-parts-at-requires invariant-loop decreases-loop

@@ -5,14 +5,14 @@ use native.Mathlib.Omega.{arith}
 use borrow.Author.Rules.{rules}
 use lib.ListN.{length, length-set}
 use lib.Seq.{sets}
-use Rattle.printing.specs.Passes.{lettersOf}
+use Rattle.printing.specs.Passes.{letters_of}
 use Rattle.printing.proofs.Pieces.{length-letters, letter-more}
 use Rattle.printing.proofs.put.put_key.Statement.{statement}
 use Rattle.printing.proofs.put.put_key.Tie as tie
 
 abbrev invariant-loop : tie.invariant-loop
 invariant-loop text₀ at size key rest₀ i₀ text rest i =
-    (length text ≡ length text₀) × (i ≤ size) × (sets text at (lettersOf i rest) ≡ sets text₀ at (lettersOf size key))
+    (length text ≡ length text₀) × (i ≤ size) × (sets text at (letters_of i rest) ≡ sets text₀ at (letters_of size key))
 
 abbrev decreases-loop : tie.decreases-loop
 decreases-loop text₀ at size key rest₀ i₀ text rest i = i
@@ -51,7 +51,7 @@ same_length : tie.Need-same-length invariant-loop decreases-loop
 same_length c = search rules
 
 returns : tie.Need-returns invariant-loop decreases-loop
-unfolding lettersOf
+unfolding letters_of
 returns c =
     let l = c.before.loop in
     let none : l.i ≡ 0 = omega arith in

@@ -6,18 +6,18 @@ use native.Mathlib.Nat.{sub-zero}
 use native.Mathlib.Omega.{arith}
 use borrow.Author.Rules.{rules}
 use lib.ListN.{length, length-append}
-use Rattle.printing.specs.Passes.{allWords, printedLines, Put}
+use Rattle.printing.specs.Passes.{all_words, printed_lines, Put}
 use Rattle.printing.proofs.Pieces.{both, no_byte}
 use Rattle.printing.proofs.Registers.{taken-registers}
 use Rattle.printing.proofs.Rooms.{lines_more, lines_none}
-use Rattle.printing.proofs.Words.{number-below, wordsFrom, words-none}
+use Rattle.printing.proofs.Words.{number-below, words_from, words-none}
 use Rattle.printing.proofs.writing.put_lines.Statement.{statement}
 use Rattle.printing.proofs.writing.put_lines.Tie as tie
 
 abbrev invariant-loop : tie.invariant-loop
 invariant-loop words text₀ at₀ end₀ text at end =
-    (length text ≡ length text₀) × (at ≤ length words) × ((length words - at) % 4 ≡ 0) × (end + length (printedLines (wordsFrom at words)) ≤ length text₀)
-    × ((new : List ℕ) (stop : ℕ) → Put text new end stop (printedLines (wordsFrom at words)) → Put text₀ new 0 stop (printedLines (allWords words)))
+    (length text ≡ length text₀) × (at ≤ length words) × ((length words - at) % 4 ≡ 0) × (end + length (printed_lines (words_from at words)) ≤ length text₀)
+    × ((new : List ℕ) (stop : ℕ) → Put text new end stop (printed_lines (words_from at words)) → Put text₀ new 0 stop (printed_lines (all_words words)))
 
 abbrev decreases-loop : tie.decreases-loop
 decreases-loop words text₀ at₀ end₀ text at end = length words - at
@@ -29,7 +29,7 @@ same_length : tie.Need-same-length invariant-loop decreases-loop
 same_length c = c.before.loop.invariant.0
 
 returns : tie.Need-returns invariant-loop decreases-loop
-unfolding printedLines
+unfolding printed_lines
 returns c =
     let l = c.before.loop in
     l.invariant.4 l.text l.end (rw (words-none l.at c.before.before.before.before.args.words.now (omega arith)) (no_byte l.text l.end))

@@ -1,5 +1,5 @@
 use Rattle.programs.proofs.Checks.{check-end, check-bad, check-go, step-more}
-use Rattle.programs.specs.Code.{checkFrom}
+use Rattle.programs.specs.Code.{check_from}
 use Rattle.programs.specs.Programs.{lines_of}
 use lib.ListN.{length, drop}
 use borrow.Author.Rules.{rules}
@@ -11,7 +11,7 @@ use Rattle.programs.proofs.checking.check.Tie as tie
 
 abbrev invariant-loop : tie.invariant-loop
 invariant-loop text table second at₀ before₀ own₀ at before own =
-    (at ≤ length text) × (before ≤ at) × (own ≤ at) × (checkFrom text table second (lines_of text) 1 0 ≡ checkFrom text table second (lines_of (drop at text)) (before + 1) own)
+    (at ≤ length text) × (before ≤ at) × (own ≤ at) × (check_from text table second (lines_of text) 1 0 ≡ check_from text table second (lines_of (drop at text)) (before + 1) own)
 
 abbrev decreases-loop : tie.decreases-loop
 decreases-loop text table second at₀ before₀ own₀ at before own = length text - at

@@ -4,19 +4,19 @@ use native.Mathlib.Omega.{arith}
 use lib.ListN.{length}
 use borrow.Author.Tests.{not-false}
 use Rattle.labels.proofs.Steps.{Going, starts}
-use Rattle.programs.specs.Code.{isText}
+use Rattle.programs.specs.Code.{is_text}
 use Rattle.programs.proofs.Lines.{feed-far, feed-rest}
 use Rattle.programs.proofs.spans.line_feed.Statement.{statement}
 use Rattle.programs.proofs.spans.line_feed.Tie as tie
 
 abbrev invariant-loop : tie.invariant-loop
-invariant-loop s at n₀ n = (n ≤ length s) × Going isText s at n
+invariant-loop s at n₀ n = (n ≤ length s) × Going is_text s at n
 
 abbrev decreases-loop : tie.decreases-loop
 decreases-loop s at n₀ n = length s - n
 
 loop-holds : tie.Need-loop-init invariant-loop decreases-loop
-loop-holds c = (c.before.requires, starts isText _ _)
+loop-holds c = (c.before.requires, starts is_text _ _)
 
 sub-if1 : tie.Need-overflow-sub-if1 invariant-loop decreases-loop
 sub-if1 c = omega (arith, c.loop.invariant.0)

@@ -1,5 +1,5 @@
 use Rattle.programs.proofs.Lines.{feed-end, feed-here, feed-on}
-use Rattle.programs.specs.Code.{isText}
+use Rattle.programs.specs.Code.{is_text}
 use Rattle.labels.proofs.Steps.{Going, starts}
 use native.Mathlib.Omega.{arith}
 use lib.ListN.{length}
@@ -8,13 +8,13 @@ use Rattle.programs.proofs.spans.next_feed.Statement.{statement}
 use Rattle.programs.proofs.spans.next_feed.Tie as tie
 
 abbrev invariant-loop : tie.invariant-loop
-invariant-loop s at n₀ n = Going isText s at n
+invariant-loop s at n₀ n = Going is_text s at n
 
 abbrev decreases-loop : tie.decreases-loop
 decreases-loop s at n₀ n = length s - n
 
 loop-holds : tie.Need-loop-init invariant-loop decreases-loop
-loop-holds c = starts isText _ _
+loop-holds c = starts is_text _ _
 
 returns : tie.Need-returns invariant-loop decreases-loop
 returns c = feed-end c.before.before.args.s.now c.before.before.args.at c.before.loop.n c.before.loop.invariant c.if1.true

@@ -1,6 +1,6 @@
 use Rattle.programs.proofs.Writes.{put_word, words-end, words-word, words-none}
-use Rattle.programs.specs.Code.{wordsFrom}
-use Rattle.programs.specs.Promise.{bytesOfWords}
+use Rattle.programs.specs.Code.{words_from}
+use Rattle.programs.specs.Promise.{bytes_of_words}
 use Rattle.programs.specs.Programs.{lines_of}
 use Rattle.lines.specs.Code.{said_of}
 use Rattle.memory.specs.Bytes.{bytes}
@@ -19,8 +19,8 @@ invariant-loop text table words₀ at₀ own₀ to₀ words at own to =
     (length words ≡ length words₀)
     × (at ≤ length text)
     × (own ≤ at)
-    × (to + 4 * length (wordsFrom text table (lines_of (drop at text)) own) ≤ length words₀)
-    × (sets words to (bytesOfWords (wordsFrom text table (lines_of (drop at text)) own)) ≡ sets words₀ 0 (bytesOfWords (wordsFrom text table (lines_of text) 0)))
+    × (to + 4 * length (words_from text table (lines_of (drop at text)) own) ≤ length words₀)
+    × (sets words to (bytes_of_words (words_from text table (lines_of (drop at text)) own)) ≡ sets words₀ 0 (bytes_of_words (words_from text table (lines_of text) 0)))
 
 abbrev decreases-loop : tie.decreases-loop
 decreases-loop text table words₀ at₀ own₀ to₀ words at own to = length text - at
@@ -32,11 +32,11 @@ same_length : tie.Need-same-length invariant-loop decreases-loop
 same_length c = c.before.loop.invariant.0
 
 returns : tie.Need-returns invariant-loop decreases-loop
-unfolding bytesOfWords
+unfolding bytes_of_words
 returns c =
     let a = c.before.before.before.before.before.args in
     let l = c.before.loop in
-    ap (λ (ws : List ℕ). sets l.words l.to (bytesOfWords ws))
+    ap (λ (ws : List ℕ). sets l.words l.to (bytes_of_words ws))
     (sym (words-end a.text.now a.table.now l.own a.text.now l.at c.if1.true))
     ∙ l.invariant.4
 
@@ -74,7 +74,7 @@ add-to c =
     c.before.before.before.before.before.before.w.given.0.0
     (c.before.before.before.before.before.before.before.before.line.ensures
     ∙ ap (said_of _) c.before.before.before.before.before.before.w.given.1) in
-    let n : length (wordsFrom a.text.now a.table.now (lines_of (drop l.at a.text.now)) l.own) ≡ suc (length (wordsFrom a.text.now a.table.now (lines_of (drop c.before.before.before.before.before.before.before.before.before.before.span-at.result.next a.text.now)) (l.own + 1))) =
+    let n : length (words_from a.text.now a.table.now (lines_of (drop l.at a.text.now)) l.own) ≡ suc (length (words_from a.text.now a.table.now (lines_of (drop c.before.before.before.before.before.before.before.before.before.before.span-at.result.next a.text.now)) (l.own + 1))) =
     ap length e in
     omega (arith, l.invariant.3)
 
@@ -96,7 +96,7 @@ loop-again c =
     let a = c.before.before.before.before.before.before.before.before.before.before.before.before.before.before.before.before.args in
     let l = c.before.before.before.before.before.before.before.before.before.before.before.before.loop in
     let rest =
-    wordsFrom a.text.now a.table.now
+    words_from a.text.now a.table.now
     (lines_of (drop c.before.before.before.before.before.before.before.before.before.before.span-at.result.next a.text.now))
     (l.own + 1) in
     let w = c.before.before.before.before.before.before.w.given.0.0 in
@@ -105,7 +105,7 @@ loop-again c =
     c.before.before.before.before.before.before.before.before.before.before.span-at.ensures.lines w
     (c.before.before.before.before.before.before.before.before.line.ensures
     ∙ ap (said_of _) c.before.before.before.before.before.before.w.given.1) in
-    let n : length (wordsFrom a.text.now a.table.now (lines_of (drop l.at a.text.now)) l.own) ≡ suc (length rest) = ap length e in
+    let n : length (words_from a.text.now a.table.now (lines_of (drop l.at a.text.now)) l.own) ≡ suc (length rest) = ap length e in
     let on = c.before.before.before.before.before.before.before.before.before.before.span-at.ensures.on in
     let put =
     c.before.before.put-number.ensures ∙ ap (λ (v : ℕ). sets l.words l.to (bytes 4 v)) c.before.before.before.wide.ensures in (
@@ -113,9 +113,9 @@ loop-again c =
       c.before.before.before.before.before.before.before.before.before.before.span-at.ensures.within,
       omega (arith, l.invariant.2),
       omega (arith, l.invariant.3),
-      ap (λ (m : List ℕ). sets m (l.to + 4) (bytesOfWords rest)) put
+      ap (λ (m : List ℕ). sets m (l.to + 4) (bytes_of_words rest)) put
           ∙ sym (put_word l.words l.to w rest)
-          ∙ ap (λ (ws : List ℕ). sets l.words l.to (bytesOfWords ws)) (sym e)
+          ∙ ap (λ (ws : List ℕ). sets l.words l.to (bytes_of_words ws)) (sym e)
           ∙ l.invariant.4,
     )
 
@@ -126,17 +126,17 @@ loop-again-2 : tie.Need-loop-preserved-2 invariant-loop decreases-loop
 loop-again-2 c =
     let a = c.before.before.before.before.before.before.before.before.before.args in
     let l = c.before.before.before.before.before.loop in
-    let rest = wordsFrom a.text.now a.table.now (lines_of (drop c.before.before.before.span-at.result.next a.text.now)) l.own in
+    let rest = words_from a.text.now a.table.now (lines_of (drop c.before.before.before.span-at.result.next a.text.now)) l.own in
     let e =
     words-none a.text.now a.table.now l.own _ _ _ c.before.before.before.span-at.ensures.lines _ c.before.line.result
     c.before.line.ensures c.match.keys2 in
-    let n : length (wordsFrom a.text.now a.table.now (lines_of (drop l.at a.text.now)) l.own) ≡ length rest = ap length e in
+    let n : length (words_from a.text.now a.table.now (lines_of (drop l.at a.text.now)) l.own) ≡ length rest = ap length e in
     let on = c.before.before.before.span-at.ensures.on in (
       l.invariant.0,
       c.before.before.before.span-at.ensures.within,
       omega (arith, l.invariant.2),
       omega (arith, l.invariant.3),
-      ap (λ (ws : List ℕ). sets l.words l.to (bytesOfWords ws)) (sym e) ∙ l.invariant.4,
+      ap (λ (ws : List ℕ). sets l.words l.to (bytes_of_words ws)) (sym e) ∙ l.invariant.4,
     )
 
 pub write-words-spec : {M : Type 1} → statement M

@@ -1,5 +1,5 @@
 use Rattle.state.proofs.Below.{all_none, all_more, all-stop}
-use Rattle.state.specs.Formed.{all_below, allWhole}
+use Rattle.state.specs.Formed.{all_below, all_whole}
 use lib.ListN.{get_or}
 use mathlib.Core.Bool.{true, false, not}
 use mathlib.Core.Path.{◌≡◌, sym, ap}
@@ -22,7 +22,7 @@ element-copy-out-if1 : tie.Need-element-copy-out-if1 invariant-loop decreases-lo
 element-copy-out-if1 c = search rules
 
 returns : tie.Need-returns invariant-loop decreases-loop
-unfolding allWhole
+unfolding all_whole
 returns c = sym (all-stop _ 16 _ c.before.before.loop-test.true (ap not c.if1.true))
 
 add-i : tie.Need-overflow-add-i invariant-loop decreases-loop
@@ -35,7 +35,7 @@ loop-again : tie.Need-loop-preserved invariant-loop decreases-loop
 loop-again c = (omega arith, all_more _ _ c.before.before.before.loop.invariant.1 (ap not c.if1.false))
 
 returns-2 : tie.Need-returns-2 invariant-loop decreases-loop
-unfolding allWhole
+unfolding all_whole
 returns-2 c = let e : c.before.loop.i ≡ 16 = omega arith in
     sym (rw e at c.before.loop.invariant.1)
 

@@ -1,4 +1,4 @@
-use Rattle.state.specs.Formed.{registerFits}
+use Rattle.state.specs.Formed.{register_fits}
 use borrow.Author.Rules.{rules}
 use Rattle.state.proofs.formed.fits_at.Statement.{statement}
 use Rattle.state.proofs.formed.fits_at.Tie as tie
@@ -22,7 +22,7 @@ fits-requires : tie.Need-fits-requires
 fits-requires c κs = search rules
 
 returns : tie.Need-returns
-unfolding registerFits
+unfolding register_fits
 returns c = c.fits2.ensures
 
 pub fits-at-spec : {M : Type 1} → statement M

@@ -1,5 +1,5 @@
 use Rattle.state.proofs.Below.{all_none, all_more, all-stop}
-use Rattle.state.specs.Formed.{all_below, zeroFits, registerFits, wellFormed}
+use Rattle.state.specs.Formed.{all_below, zero_fits, register_fits, well_formed}
 use Rattle.state.specs.Registers.{registers}
 use mathlib.Core.Bool.{true}
 use mathlib.Core.Path.{◌≡◌, sym, ◌∙◌}
@@ -11,7 +11,7 @@ use Rattle.state.proofs.formed.well_formed.Statement.{statement}
 use Rattle.state.proofs.formed.well_formed.Tie as tie
 
 abbrev invariant-loop : tie.invariant-loop
-invariant-loop regs accumulated bounds i₀ i = (i ≤ 16) × (all_below (registerFits (registers regs accumulated bounds)) i ≡ true)
+invariant-loop regs accumulated bounds i₀ i = (i ≤ 16) × (all_below (register_fits (registers regs accumulated bounds)) i ≡ true)
 
 abbrev decreases-loop : tie.decreases-loop
 decreases-loop regs accumulated bounds i₀ i = 16 - i
@@ -29,7 +29,7 @@ zero-fits-requires : tie.Need-zero-fits-requires invariant-loop decreases-loop
 zero-fits-requires c κs = search rules
 
 returns : tie.Need-returns invariant-loop decreases-loop
-unfolding wellFormed zeroFits
+unfolding well_formed zero_fits
 returns c = rw (sym c.before.zero-fits.ensures ∙ not-true _ c.if1.true)
 
 loop-holds : tie.Need-loop-init invariant-loop decreases-loop
@@ -39,7 +39,7 @@ fits-at-requires : tie.Need-fits-at-requires invariant-loop decreases-loop
 fits-at-requires c κs = search rules
 
 returns-2 : tie.Need-returns-2 invariant-loop decreases-loop
-unfolding wellFormed zeroFits
+unfolding well_formed zero_fits
 returns-2 c = rw (sym c.before.before.before.before.before.zero-fits.ensures ∙ not-false _ c.before.before.before.before.if1.false) (sym (all-stop _ 16 _ c.before.before.loop-test.true (sym c.before.fits-at.ensures ∙ not-true _ c.if2.true)))
 
 add-i : tie.Need-overflow-add-i invariant-loop decreases-loop
@@ -52,7 +52,7 @@ loop-again : tie.Need-loop-preserved invariant-loop decreases-loop
 loop-again c = (omega arith, all_more _ _ c.before.before.before.loop.invariant.1 (sym c.before.fits-at.ensures ∙ not-false _ c.if2.false))
 
 returns-3 : tie.Need-returns-3 invariant-loop decreases-loop
-unfolding wellFormed zeroFits
+unfolding well_formed zero_fits
 returns-3 c = let e : c.before.loop.i ≡ 16 = omega arith in
     rw (sym c.before.before.before.zero-fits.ensures ∙ not-false _ c.before.before.if1.false) (sym (rw e at c.before.loop.invariant.1))
 

@@ -1,5 +1,5 @@
-use Rattle.state.proofs.Files.{normaliseTo-more}
-use Rattle.state.specs.Registers.{Becomes, normalise, normaliseTo}
+use Rattle.state.proofs.Files.{normalise_to-more}
+use Rattle.state.specs.Registers.{Becomes, normalise, normalise_to}
 use borrow.Author.Rules.{rules}
 use native.Mathlib.Omega.{arith}
 use mathlib.Core.Path.{◌≡◌, refl, sym, ap, ◌∙◌}
@@ -8,13 +8,13 @@ use Rattle.state.proofs.registers.normalise_all.Statement.{statement}
 use Rattle.state.proofs.registers.normalise_all.Tie as tie
 
 abbrev invariant-loop : tie.invariant-loop
-invariant-loop regs₀ accumulated₀ k₀ regs accumulated k = (k ≤ 15) × Becomes (normaliseTo k) regs₀ accumulated₀ regs accumulated
+invariant-loop regs₀ accumulated₀ k₀ regs accumulated k = (k ≤ 15) × Becomes (normalise_to k) regs₀ accumulated₀ regs accumulated
 
 abbrev decreases-loop : tie.decreases-loop
 decreases-loop regs₀ accumulated₀ k₀ regs accumulated k = 15 - k
 
 loop-holds : tie.Need-loop-init invariant-loop decreases-loop
-unfolding normaliseTo
+unfolding normalise_to
 loop-holds c = (omega arith, λ bs. refl)
 
 add-k : tie.Need-overflow-add-k invariant-loop decreases-loop
@@ -27,7 +27,7 @@ loop-less : tie.Need-loop-smaller invariant-loop decreases-loop
 loop-less c = omega arith
 
 loop-again : tie.Need-loop-preserved invariant-loop decreases-loop
-loop-again c = (omega arith, λ bs. c.normalise.ensures bs ∙ ap (normalise (c.before.before.before.before.loop.k + 1)) (c.before.before.before.before.loop.invariant.1 bs) ∙ sym (normaliseTo-more _ _))
+loop-again c = (omega arith, λ bs. c.normalise.ensures bs ∙ ap (normalise (c.before.before.before.before.loop.k + 1)) (c.before.before.before.before.loop.invariant.1 bs) ∙ sym (normalise_to-more _ _))
 
 returns : tie.Need-returns invariant-loop decreases-loop
 returns c =

@@ -6,8 +6,8 @@ use native.Mathlib.Nat.{le_refl}
 use lib.ListN.{length}
 use Rattle.state.specs.Registers.{registers}
 use Rattle.execute.specs.World.{world}
-use Rattle.execute.specs.Rules.{rulesOf}
-use Rattle.step.specs.Leg.{later, legIn}
+use Rattle.execute.specs.Rules.{rules_of}
+use Rattle.step.specs.Leg.{later, leg_in}
 use Rattle.step.proofs.Legs.{one_more, less-left, steps-fit, passes_on, ends, runs-dry, begins}
 use Rattle.step.proofs.leg.advance.Statement.{statement}
 use Rattle.step.proofs.leg.advance.Tie as tie
@@ -15,8 +15,8 @@ use Rattle.step.proofs.leg.advance.Tie as tie
 abbrev invariant-loop : tie.invariant-loop
 invariant-loop choices room fuel m₀ regs₀ accumulated₀ bounds₀ pc₀ halted₀ n₀ m regs accumulated bounds pc halted n =
     (length m ≡ length m₀) × (n ≤ fuel)
-    × (later n (legIn (fuel - n) choices.mode room (rulesOf choices) (world pc halted (registers regs accumulated bounds) m))
-    ≡ legIn fuel choices.mode room (rulesOf choices) (world pc₀ halted₀ (registers regs₀ accumulated₀ bounds₀) m₀))
+    × (later n (leg_in (fuel - n) choices.mode room (rules_of choices) (world pc halted (registers regs accumulated bounds) m))
+    ≡ leg_in fuel choices.mode room (rules_of choices) (world pc₀ halted₀ (registers regs₀ accumulated₀ bounds₀) m₀))
 
 abbrev decreases-loop : tie.decreases-loop
 decreases-loop choices room fuel m₀ regs₀ accumulated₀ bounds₀ pc₀ halted₀ n₀ m regs accumulated bounds pc halted n =

@@ -2,9 +2,9 @@ use Rattle.sums.proofs.Decimals.{Counting, counts, counts-on, digits-end, digits
 use Rattle.labels.proofs.Steps.{class-inside}
 use Rattle.labels.proofs.Classes.{digit_low, digit-high}
 use Rattle.sums.specs.declared.Read.{Read}
-use Rattle.sums.specs.Code.{sign_of, readTo, Past}
-use Rattle.sums.specs.Reader.{digitsRead}
-use Rattle.labels.specs.Bytes.{isDigit}
+use Rattle.sums.specs.Code.{sign_of, read_to, Past}
+use Rattle.sums.specs.Reader.{digits_read}
+use Rattle.labels.specs.Bytes.{is_digit}
 use borrow.Author.Tests.{not-true, not-false}
 use native.Mathlib.Omega.{arith}
 use lib.ListN.{length, drop}
@@ -26,7 +26,7 @@ digit-requires : tie.Need-digit-requires invariant-loop decreases-loop
 digit-requires c κs = tt
 
 returns : tie.Need-returns invariant-loop decreases-loop
-returns c = (digits-none c.before.before.before.before.args.negative _ (sym (c.before.digit.ensures ∙ ap isDigit c.before.before.byte.ensures) ∙ not-true _ c.if1.true), tt)
+returns c = (digits-none c.before.before.before.before.args.negative _ (sym (c.before.digit.ensures ∙ ap is_digit c.before.before.byte.ensures) ∙ not-true _ c.if1.true), tt)
 
 loop-holds : tie.Need-loop-init invariant-loop decreases-loop
 loop-holds c = counts _ _
@@ -48,14 +48,14 @@ returns-2 c =
     let args = c.before.before.before.before.before.before.before.before.before.before.args in
     let loop = c.before.before.before.before.before.loop in
     subst
-    (λ (r : Read). (digitsRead (sign_of args.negative) (drop args.at args.s.now) ≡ readTo args.s.now r) × Past args.s.now args.at r)
+    (λ (r : Read). (digits_read (sign_of args.negative) (drop args.at args.s.now) ≡ read_to args.s.now r) × Past args.s.now args.at r)
     (sym c.within.ensures)
     (digits-end args.s.now args.at loop.v loop.n loop.invariant args.negative c.before.of-digits.result
     (sym
     (c.before.before.before.before.before.before.before.digit.ensures
-    ∙ ap isDigit c.before.before.before.before.before.before.before.before.byte.ensures)
+    ∙ ap is_digit c.before.before.before.before.before.before.before.before.byte.ensures)
     ∙ not-false _ c.before.before.before.before.before.before.if1.false)
-    (sym (c.before.before.before.digit2.ensures ∙ ap isDigit c.before.before.before.before.byte2.ensures)
+    (sym (c.before.before.before.digit2.ensures ∙ ap is_digit c.before.before.before.before.byte2.ensures)
     ∙ not-true _ c.before.before.if2.true)
     c.before.of-digits.ensures)
 
@@ -66,9 +66,9 @@ returns-3 c =
       digits-over args.s.now args.at loop.v loop.n loop.invariant args.negative
           (sym
           (c.before.before.before.before.before.before.digit.ensures
-          ∙ ap isDigit c.before.before.before.before.before.before.before.byte.ensures)
+          ∙ ap is_digit c.before.before.before.before.before.before.before.byte.ensures)
           ∙ not-false _ c.before.before.before.before.before.if1.false)
-          (sym (c.before.before.digit2.ensures ∙ ap isDigit c.before.before.before.byte2.ensures) ∙ not-false _ c.before.if2.false)
+          (sym (c.before.before.digit2.ensures ∙ ap is_digit c.before.before.before.byte2.ensures) ∙ not-false _ c.before.if2.false)
           c.if3.true,
       tt,
     )
@@ -92,9 +92,9 @@ add-n : tie.Need-overflow-add-n invariant-loop decreases-loop
 add-n c =
     omega (
       arith,
-      class-inside isDigit c.before.before.before.before.before.before.before.before.before.before.args.s.now
+      class-inside is_digit c.before.before.before.before.before.before.before.before.before.before.args.s.now
           c.before.before.before.before.before.loop.n refl
-          (sym (c.before.before.before.digit2.ensures ∙ ap isDigit c.before.before.before.before.byte2.ensures)
+          (sym (c.before.before.before.digit2.ensures ∙ ap is_digit c.before.before.before.before.byte2.ensures)
           ∙ not-false _ c.before.before.if2.false),
     )
 
@@ -102,9 +102,9 @@ loop-less : tie.Need-loop-smaller invariant-loop decreases-loop
 loop-less c =
     omega (
       arith,
-      class-inside isDigit c.before.before.before.before.before.before.before.before.before.before.args.s.now
+      class-inside is_digit c.before.before.before.before.before.before.before.before.before.before.args.s.now
           c.before.before.before.before.before.loop.n refl
-          (sym (c.before.before.before.digit2.ensures ∙ ap isDigit c.before.before.before.before.byte2.ensures)
+          (sym (c.before.before.before.digit2.ensures ∙ ap is_digit c.before.before.before.before.byte2.ensures)
           ∙ not-false _ c.before.before.if2.false),
     )
 
@@ -115,7 +115,7 @@ loop-again c =
     subst (λ (w : ℕ). Counting args.s.now args.at (loop.v * 10 + w) (loop.n + 1))
     (ap (λ (b : ℕ). b - 48) (sym c.before.before.before.before.byte2.ensures) ∙ sym c.worth.ensures)
     (counts-on args.s.now args.at loop.v loop.n loop.invariant
-    (sym (c.before.before.before.digit2.ensures ∙ ap isDigit c.before.before.before.before.byte2.ensures)
+    (sym (c.before.before.before.digit2.ensures ∙ ap is_digit c.before.before.before.before.byte2.ensures)
     ∙ not-false _ c.before.before.if2.false))
 
 pub digits-spec : {M : Type 1} → statement M

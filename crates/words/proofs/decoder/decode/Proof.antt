@@ -1,4 +1,4 @@
-use Rattle.words.specs.Words.{decodedOf}
+use Rattle.words.specs.Words.{decoded_of}
 use borrow.Author.Rules.{rules}
 use Rattle.words.proofs.decoder.decode.Statement.{statement}
 use Rattle.words.proofs.decoder.decode.Tie as tie
@@ -16,11 +16,11 @@ enum-known-r : tie.Need-enum-known-r
 enum-known-r c = search rules
 
 returns : tie.Need-returns
-unfolding decodedOf
+unfolding decoded_of
 returns c = rw (← c.before.before.before.before.take.ensures, c.before.before.p.given.1, c.instruction-of.ensures)
 
 returns-2 : tie.Need-returns-2
-unfolding decodedOf
+unfolding decoded_of
 returns-2 c = rw (← c.before.before.before.take.ensures, c.before.r.given.1)
 
 pub decode-spec : {M : Type 1} → statement M

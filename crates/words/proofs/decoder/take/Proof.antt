@@ -1,4 +1,4 @@
-use Rattle.words.specs.Words.{takeIn, foundApart}
+use Rattle.words.specs.Words.{take_in, found_apart}
 use borrow.Author.Rules.{rules}
 use Rattle.words.proofs.decoder.take.Statement.{statement}
 use Rattle.words.proofs.decoder.take.Tie as tie
@@ -19,11 +19,11 @@ enum_told : tie.Need-enum-told
 enum_told c = search rules
 
 returns : tie.Need-returns
-unfolding takeIn foundApart
+unfolding take_in found_apart
 returns c = rw (← c.before.before.before.before.before.low.ensures, ← c.before.before.before.before.opcode-of.ensures, c.before.before.op.given.1) c.apart.ensures
 
 returns-2 : tie.Need-returns-2
-unfolding takeIn foundApart
+unfolding take_in found_apart
 returns-2 c = rw (← c.before.before.before.low.ensures, ← c.before.before.opcode-of.ensures, c.enum_told.given.1)
 
 pub take_spec : {M : Type 1} → statement M

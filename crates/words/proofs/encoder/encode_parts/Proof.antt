@@ -1,4 +1,4 @@
-use Rattle.words.specs.Words.{encodedIn}
+use Rattle.words.specs.Words.{encoded_in}
 use borrow.Author.Rules.{rules}
 use Rattle.words.proofs.encoder.encode_parts.Statement.{statement}
 use Rattle.words.proofs.encoder.encode_parts.Tie as tie
@@ -19,11 +19,11 @@ word-of-requires : tie.Need-word-of-requires
 word-of-requires c κs = search rules
 
 returns : tie.Need-returns
-unfolding encodedIn
+unfolding encoded_in
 returns c = rw (← c.before.before.before.before.before.parts-fit.ensures, c.before.before.before.before.if1.true, c.word-of.ensures, c.before.whole.ensures, c.before.before.opcode-number.ensures, c.before.before.before.form_of.ensures)
 
 returns-2 : tie.Need-returns-2
-unfolding encodedIn
+unfolding encoded_in
 returns-2 c = rw (← c.before.parts-fit.ensures, c.if1.false)
 
 pub encode-parts-spec : {M : Type 1} → statement M

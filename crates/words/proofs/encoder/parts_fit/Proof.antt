@@ -1,4 +1,4 @@
-use Rattle.words.specs.Words.{partsFit}
+use Rattle.words.specs.Words.{parts_fit}
 use borrow.Author.Rules.{rules}
 use Rattle.words.proofs.encoder.parts_fit.Statement.{statement}
 use Rattle.words.proofs.encoder.parts_fit.Tie as tie
@@ -10,7 +10,7 @@ imm-fits-requires : tie.Need-imm-fits-requires
 imm-fits-requires c κs = search rules
 
 returns : tie.Need-returns
-unfolding partsFit
+unfolding parts_fit
 returns c = rw (c.imm-fits.ensures, c.before.form_of.ensures)
 
 pub parts-fit-spec : {M : Type 1} → statement M
