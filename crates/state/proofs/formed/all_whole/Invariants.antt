@@ -1,0 +1,15 @@
+use Rattle.state.proofs.Below.{all_none, all_more, all-stop}
+use Rattle.state.specs.Formed.{all_below, all_whole}
+use lib.ListN.{get_or}
+use mathlib.Core.Bool.{true, false, not}
+use mathlib.Core.Path.{◌≡◌, sym, ap}
+use native.Mathlib.Omega.{arith}
+use Prim.Native.Nat.{◌≤◌, ◌-◌}
+use borrow.Author.Rules.{rules}
+use Rattle.state.proofs.formed.all_whole.Given as goal
+
+abbrev pub invariant-loop-i : goal.invariant-loop-i
+invariant-loop-i l = (l.i ≤ 16) × (all_below (λ n. not (get_or l.accumulated n false)) l.i ≡ true)
+
+abbrev pub decreases-loop-i : goal.decreases-loop-i
+decreases-loop-i l = 16 - l.i

@@ -1,0 +1,11 @@
+use Rattle.state.specs.Held.{high_of, held_of}
+use native.Mathlib.Omega.{arith}
+use Rattle.state.proofs.registers.high_of.Goals as goal
+
+pub returns-then-waits : goal.returns-then-waits
+unfolding high_of held_of
+returns-then-waits c = (rw c.if-waits.true, omega arith)
+
+pub returns-else-waits : goal.returns-else-waits
+unfolding high_of held_of
+returns-else-waits c = (rw c.if-waits.false, omega arith)

@@ -1,0 +1,14 @@
+use Rattle.state.proofs.Files.{normalise_to-more}
+use Rattle.state.specs.Registers.{Becomes, normalise, normalise_to}
+use borrow.Author.Rules.{rules}
+use native.Mathlib.Omega.{arith}
+use mathlib.Core.Path.{◌≡◌, refl, sym, ap, ◌∙◌}
+use Prim.Native.Nat.{◌≤◌, ◌-◌, ◌+◌}
+use Rattle.state.proofs.registers.normalise_all.Goals as goal
+
+pub loop-k-init : goal.loop-k-init
+unfolding normalise_to
+loop-k-init c = (omega arith, λ bs. refl)
+
+pub loop-k-preserved : goal.loop-k-preserved
+loop-k-preserved c = (omega arith, λ bs. c.normalise.ensures bs ∙ ap (normalise (c.loop-k.k + 1)) (c.loop-k.invariant.1 bs) ∙ sym (normalise_to-more _ _))
