@@ -7,7 +7,7 @@ use labels::table::note;
 use lines::{Start, start_of};
 
 // A line: from where to where, and how many instructions stand before it.
-#[derive(Drop)]
+#[derive(Clone, Copy)]
 pub struct Line {
     pub from: usize,
     pub stop: usize,

@@ -1,5 +1,5 @@
 // What is read of a line, the numbers of the mistakes in docs/mistakes.txt, and a place further on.
-#[derive(Drop)]
+#[derive(Clone, Copy)]
 pub enum Read {
     // the place after it
     Passed(usize),

@@ -4,7 +4,7 @@ ghost use Rattle.std.specs.Prelude.{◌≤◌, ◌<◌, length};
 use labels::text::byte;
 
 // Where a line stops, and where the next one begins.
-#[derive(Drop)]
+#[derive(Clone, Copy)]
 pub struct Span {
     pub stop: usize,
     pub next: usize,

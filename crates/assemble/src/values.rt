@@ -7,7 +7,7 @@ pub fn one_more(n: u64) -> u64 {
     if n < u64::MAX { n + 1 } else { n }
 }
 
-#[derive(Drop)]
+#[derive(Clone, Copy)]
 pub enum Both {
     Of(u64),
     Over,

@@ -19,14 +19,14 @@ use state::State;
 use step::{OneStep, leg, takes};
 
 // The count after the checks of a step, and what is to be listed, which stands beyond the list where nothing is.
-#[derive(Drop)]
+#[derive(Clone, Copy)]
 struct Noted {
     count: usize,
     place: usize,
     pending: Pending,
 }
 
-#[derive(Drop)]
+#[derive(Clone, Copy)]
 struct Moved {
     done: OneStep,
     place: usize,
@@ -34,13 +34,13 @@ struct Moved {
 }
 
 // A run on its way, and how many checks are listed.
-#[derive(Drop)]
+#[derive(Clone, Copy)]
 struct Way {
     going: Going,
     count: usize,
 }
 
-#[derive(Drop)]
+#[derive(Clone, Copy)]
 struct Turned {
     next: Way,
     place: usize,

@@ -8,7 +8,7 @@ use pending::{Counted, Entry};
 use refusal::Refusal;
 
 #[repr(C)]
-#[derive(Drop)]
+#[derive(Clone, Copy)]
 pub struct Pending {
     pub value: u64,
     pub bound: u8,
@@ -16,7 +16,7 @@ pub struct Pending {
 }
 
 // Where a check is to be listed, which is beyond the list where none is, and the answer.
-#[derive(Drop)]
+#[derive(Clone, Copy)]
 struct Placed {
     answer: Counted,
     place: usize,

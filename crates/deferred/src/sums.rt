@@ -7,7 +7,7 @@ ghost use Rattle.deferred.specs.Limbs.{sum_into, covers, limbed};
 ghost use Rattle.deferred.specs.Plan.{operand, limbs_of, Small, Plans};
 
 // The limbs of a register or of an immediate, and its bound.
-#[derive(Drop)]
+#[derive(Clone, Copy)]
 pub(crate) struct Operand {
     pub low: u64,
     pub high: u64,
@@ -16,7 +16,7 @@ pub(crate) struct Operand {
 
 // Whether the instruction is done on limbs; whether its sources are normalised for it, the second of which is R0 where there is none;
 // what it keeps, and its bound.
-#[derive(Drop)]
+#[derive(Clone, Copy)]
 pub(crate) struct Plan {
     pub waits: bool,
     pub forced: bool,

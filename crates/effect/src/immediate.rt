@@ -13,7 +13,7 @@ use opcode::Opcode;
 use refusal::Refusal;
 
 // The value and the bound of the source, and the immediate.
-#[derive(Drop)]
+#[derive(Clone, Copy)]
 pub struct Source {
     pub pc: u64,
     pub s: u64,
@@ -22,7 +22,7 @@ pub struct Source {
 }
 
 // What it comes to: the destination is written, on the way to the next instruction; or it is refused.
-#[derive(Drop)]
+#[derive(Clone, Copy)]
 pub enum Turn {
     Writes { next: u64, bound: u8, value: u64 },
     Refuses(Refusal),

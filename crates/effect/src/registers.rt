@@ -16,7 +16,7 @@ use opcode::Opcode;
 use refusal::Refusal;
 
 // The values of the two sources; the bounds of the destination and of the sources.
-#[derive(Drop)]
+#[derive(Clone, Copy)]
 pub struct Operands {
     pub pc: u64,
     pub s: u64,
@@ -27,7 +27,7 @@ pub struct Operands {
 }
 
 // What it comes to: the destination is written, with a check or without; nothing but going on; or it is refused.
-#[derive(Drop)]
+#[derive(Clone, Copy)]
 pub enum Deed {
     Writes { bound: u8, value: u64 },
     Checks { bound: u8, value: u64 },

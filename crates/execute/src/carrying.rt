@@ -70,7 +70,7 @@ pub(crate) fn settle_two(
     }
 }
 
-#[derive(Drop)]
+#[derive(Clone, Copy)]
 pub(crate) struct Write {
     pub rd: u8,
     pub bound: u8,

@@ -18,19 +18,19 @@ mod registers; // registers.rt: two registers
 mod store; // store.rt: the stores
 pub mod word; // word.rt: a word obeyed by its form
 
-#[derive(Drop)]
+#[derive(Clone, Copy)]
 pub enum Mode {
     Plain,
     Deferred,
 }
 
 // What whoever runs the machine chooses.
-#[derive(Drop)]
+#[derive(Clone, Copy)]
 pub struct Choices {
     pub mode: Mode,
 }
 
-#[derive(Drop)]
+#[derive(Clone, Copy)]
 pub enum Went {
     On,
     Ebreak,
@@ -39,7 +39,7 @@ pub enum Went {
 }
 
 // What a step needs beside the registers and the memory, which are lent to it.
-#[derive(Drop)]
+#[derive(Clone, Copy)]
 pub struct Start {
     pub choices: Choices,
     pub room: Room,
@@ -48,7 +48,7 @@ pub struct Start {
 }
 
 // What it leaves beside them.
-#[derive(Drop)]
+#[derive(Clone, Copy)]
 pub struct Advance {
     pub went: Went,
     pub pc: u64,

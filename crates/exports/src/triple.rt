@@ -7,7 +7,7 @@ use refusal::Refusal;
 
 const TRIPLE_BYTES: usize = 24;
 
-#[derive(Drop)]
+#[derive(Clone, Copy)]
 pub struct Triple {
     pub first: u64,
     pub second: u64,

@@ -17,7 +17,7 @@ use refusal::Refusal;
 use state::State;
 use words::Encoded;
 
-#[derive(Drop)]
+#[derive(Clone, Copy)]
 pub struct Executed {
     pub went: Went,
     pub checks: Checks,

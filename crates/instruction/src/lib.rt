@@ -5,7 +5,7 @@ use opcode::Opcode;
 pub use operands::{instruction_of, parts_of};
 
 // The instructions, by what they need. An immediate is its signed number modulo 2^64, as `*imm as u64` in the Rust.
-#[derive(Drop)]
+#[derive(Clone, Copy)]
 pub enum Instruction {
     Add {
         rd: u8,
@@ -82,7 +82,7 @@ pub enum Instruction {
     Ebreak,
 }
 
-#[derive(Drop)]
+#[derive(Clone, Copy)]
 pub enum Division {
     Div,
     Divu,
@@ -90,7 +90,7 @@ pub enum Division {
     Remu,
 }
 
-#[derive(Drop)]
+#[derive(Clone, Copy)]
 pub enum Operation {
     Mulh,
     And,
@@ -107,7 +107,7 @@ pub enum Operation {
     Sne,
 }
 
-#[derive(Drop)]
+#[derive(Clone, Copy)]
 pub enum ImmOperation {
     Andi,
     Ori,
@@ -117,14 +117,14 @@ pub enum ImmOperation {
     Srai,
 }
 
-#[derive(Drop)]
+#[derive(Clone, Copy)]
 pub enum MoveKind {
     Cmov,
     Cmovz,
     Cmovnz,
 }
 
-#[derive(Drop)]
+#[derive(Clone, Copy)]
 pub enum LoadKind {
     Lb,
     Lbu,
@@ -134,7 +134,7 @@ pub enum LoadKind {
     Ld,
 }
 
-#[derive(Drop)]
+#[derive(Clone, Copy)]
 pub enum StoreKind {
     Sb,
     Sh,
@@ -142,7 +142,7 @@ pub enum StoreKind {
     Sd,
 }
 
-#[derive(Drop)]
+#[derive(Clone, Copy)]
 pub enum BranchKind {
     Beq,
     Bne,
@@ -153,7 +153,7 @@ pub enum BranchKind {
 }
 
 // An instruction taken apart: its opcode, the registers at bits 7, 11 and 15 of its word, and the immediate.
-#[derive(Drop)]
+#[derive(Clone, Copy)]
 pub struct Parts {
     pub op: Opcode,
     pub a: u8,

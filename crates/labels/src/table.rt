@@ -7,20 +7,20 @@ ghost use Rattle.labels.specs.Table.{name_from, home_of, next_of, search_in, ind
 use crate::text::{byte, part};
 
 // Where a name is in the table, or would be.
-#[derive(Drop)]
+#[derive(Clone, Copy)]
 pub enum Slot {
     Held(usize),
     Free(usize),
     Full,
 }
 
-#[derive(Drop)]
+#[derive(Clone, Copy)]
 pub enum Found {
     At(u64, usize),
     Nothing,
 }
 
-#[derive(Drop)]
+#[derive(Clone, Copy)]
 pub enum Noted {
     New,
     Again,
@@ -28,7 +28,7 @@ pub enum Noted {
 }
 
 // A name, read once: its key, and the place after it.
-#[derive(Drop)]
+#[derive(Clone, Copy)]
 pub struct Name {
     pub key: u64,
     pub after: usize,

@@ -10,7 +10,7 @@ use memory::bytes::number_at;
 use state::State;
 
 // The parts of a register's record.
-#[derive(Drop)]
+#[derive(Clone, Copy)]
 struct RecordParts {
     kind: u8,
     bound: u8,
@@ -20,7 +20,7 @@ struct RecordParts {
 }
 
 // The state, and whether the bytes are well laid.
-#[derive(Drop)]
+#[derive(Clone, Copy)]
 pub struct Reading {
     pub state: State,
     pub laid: bool,

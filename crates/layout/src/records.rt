@@ -5,7 +5,7 @@ ghost use Rattle.layout.specs.Numbers.{numbers_at};
 
 use memory::bytes::number_at;
 
-#[derive(Drop)]
+#[derive(Clone, Copy)]
 pub(crate) struct Record {
     pub(crate) head: u64,
     pub(crate) first: u64,

@@ -15,7 +15,7 @@ use step::OneStep;
 
 // Mark and kinds are 0 or 1. The values are kept as the state keeps them: of an accumulated register low + 2^30 * high.
 #[repr(C)]
-#[derive(Drop)]
+#[derive(Clone, Copy)]
 pub struct Lent {
     pub pc: u64,
     pub halted: u8,
@@ -26,20 +26,20 @@ pub struct Lent {
 
 // The stop's code, 0 where the run goes on; its particular; and the count of the list.
 #[repr(C)]
-#[derive(Drop)]
+#[derive(Clone, Copy)]
 pub struct StepAnswer {
     pub code: u64,
     pub particular: u64,
     pub count: usize,
 }
 
-#[derive(Drop)]
+#[derive(Clone, Copy)]
 struct Ready {
     choices: Choices,
     state: State,
 }
 
-#[derive(Drop)]
+#[derive(Clone, Copy)]
 struct Done {
     answer: StepAnswer,
     lent: Lent,

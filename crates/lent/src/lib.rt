@@ -11,7 +11,7 @@ use state::State;
 
 pub mod exported; // exported.rt: the same for a host over C, as a record of numbers
 
-#[derive(Drop)]
+#[derive(Clone, Copy)]
 pub struct InPlace {
     pub went: Went,
     pub count: usize,

@@ -14,7 +14,7 @@ use opcode::Found;
 
 // How a line begins: with nothing; as the definition of the label at a place; with a name, which may be an instruction's: its key, and the
 // place of what follows; or with something else.
-#[derive(Drop)]
+#[derive(Clone, Copy)]
 pub enum Start {
     Blank,
     Label(usize),
@@ -23,7 +23,7 @@ pub enum Start {
 }
 
 // What a line says: nothing, its label, an instruction's word, or what is wrong.
-#[derive(Drop)]
+#[derive(Clone, Copy)]
 pub enum Said {
     Blank,
     Name,

@@ -9,7 +9,7 @@ use labels::text::{byte, digit, skip};
 use sums::{Read, sum};
 
 // A register's number, and the place after it.
-#[derive(Drop)]
+#[derive(Clone, Copy)]
 pub(crate) enum Reg {
     Of(u8, usize),
     Bad,

@@ -8,7 +8,7 @@ use refusal::Refusal;
 pub mod bytes; // bytes.rt: numbers in bytes
 
 // 1, 2, 4 and 8 bytes. An enum, so that each size is a constant where bytes are read and written.
-#[derive(Drop)]
+#[derive(Clone, Copy)]
 pub enum Size {
     Byte,
     Half,
@@ -16,26 +16,26 @@ pub enum Size {
     Double,
 }
 
-#[derive(Drop)]
+#[derive(Clone, Copy)]
 pub enum Access {
     Served,
     Beyond,
     Misaligned,
 }
 
-#[derive(Drop)]
+#[derive(Clone, Copy)]
 pub enum Loaded {
     Value(u64),
     Refused(Refusal),
 }
 
-#[derive(Drop)]
+#[derive(Clone, Copy)]
 pub enum Stored {
     Done,
     Refused(Refusal),
 }
 
-#[derive(Drop)]
+#[derive(Clone, Copy)]
 pub enum Fetched {
     Word(u32),
     Refused(Refusal),

@@ -6,21 +6,21 @@ use refusal::Refusal;
 use state::{State, registers};
 
 // The limbs before, the limbs after, and the carry out of each.
-#[derive(Drop)]
+#[derive(Clone, Copy)]
 pub struct NormalizationResult {
     pub accumulated: [u64; 2],
     pub normalized: [u32; 2],
     pub carries: [u32; 2],
 }
 
-#[derive(Drop)]
+#[derive(Clone, Copy)]
 pub enum Normalizing {
     Unneeded,
     Done,
     Refused(Refusal),
 }
 
-#[derive(Drop)]
+#[derive(Clone, Copy)]
 pub struct Normalized {
     pub answer: Normalizing,
     pub result: NormalizationResult,

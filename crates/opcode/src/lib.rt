@@ -4,7 +4,7 @@ ghost use Rattle.encoding.specs.Fields.{within};
 ghost use Rattle.opcode.specs.Opcodes.{opcode_number, opcode_in};
 
 // The fifty, in document 01's order.
-#[derive(Drop)]
+#[derive(Clone, Copy)]
 pub enum Opcode {
     Add,
     Sub,
@@ -59,7 +59,7 @@ pub enum Opcode {
 }
 
 // How an instruction lies in its word: by its kind, but that a shift amount has six bits, and Ecall and Ebreak have no operands.
-#[derive(Drop)]
+#[derive(Clone, Copy)]
 pub enum Form {
     R,
     I,
@@ -71,7 +71,7 @@ pub enum Form {
 }
 
 // The opcode of a number.
-#[derive(Drop)]
+#[derive(Clone, Copy)]
 pub enum Found {
     Op(Opcode),
     Nothing,

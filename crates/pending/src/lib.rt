@@ -6,27 +6,27 @@ use refusal::Refusal;
 
 // The checks that a step asks for. The bound comes first: LLVM would else store the last field and the mark of `Nothing` as one
 // byte at a place that is chosen, and so keep checks in memory.
-#[derive(Drop)]
+#[derive(Clone, Copy)]
 pub enum Checks {
     Nothing,
     One { bound: u8, value: u64 },
 }
 
 // How many checks more a list takes; any number where none is lent.
-#[derive(Drop)]
+#[derive(Clone, Copy)]
 pub enum Room {
     Unlent,
     Left(usize),
 }
 
 // How many checks are listed after a call, or its refusal.
-#[derive(Drop)]
+#[derive(Clone, Copy)]
 pub enum Counted {
     Count(usize),
     Refused(Refusal),
 }
 
-#[derive(Drop)]
+#[derive(Clone, Copy)]
 pub enum Entry {
     Check { value: u64, bound: u8, pc: u64 },
     Nothing,

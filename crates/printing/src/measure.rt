@@ -8,7 +8,7 @@ use crate::source::parts_at;
 use refusal::Refusal;
 use words::Taken;
 
-#[derive(Drop)]
+#[derive(Clone, Copy)]
 pub(crate) enum Room {
     Left(usize),
     Refused(Refusal),

@@ -6,13 +6,13 @@ ghost use Rattle.programs.specs.Code.{line_step, check_from};
 use crate::spans::span_at;
 use lines::{Said, line};
 
-#[derive(Drop)]
+#[derive(Clone, Copy)]
 pub(crate) enum Step {
     Go(u64),
     Bad,
 }
 
-#[derive(Drop)]
+#[derive(Clone, Copy)]
 pub(crate) enum Checked {
     Words(u64),
     Bad(u64),

@@ -7,21 +7,21 @@ use labels::table::{Noted, note};
 use lines::{Start, start_of};
 
 // What was met so far: instructions, definitions of labels, and the number of the first line that defines one again, or 0.
-#[derive(Drop)]
+#[derive(Clone, Copy)]
 pub(crate) struct Tally {
     pub own: u64,
     pub count: usize,
     pub second: u64,
 }
 
-#[derive(Drop)]
+#[derive(Clone, Copy)]
 pub(crate) enum Met {
     Go(Tally),
     Short,
 }
 
 // The last number of a text's tally, if there is room for its labels.
-#[derive(Drop)]
+#[derive(Clone, Copy)]
 pub(crate) enum Labels {
     All(u64),
     Short,

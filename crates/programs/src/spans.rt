@@ -7,7 +7,7 @@ ghost use Rattle.programs.specs.Code.{is_text, stripped, Spans};
 use labels::text::byte;
 
 // A line of a text: where it stops, and where the next one begins.
-#[derive(Drop)]
+#[derive(Clone, Copy)]
 pub(crate) struct Span {
     pub stop: usize,
     pub next: usize,

@@ -3,7 +3,7 @@ ghost use Rattle.std.specs.Prelude.{◌≡◌};
 ghost use Rattle.refusal.specs.Stops.{number_of, particular_of, code_of, particular_at};
 
 // In the order of document 01's numbers, 1 to 9, each with the pc, the missing byte, the address or the word that it names.
-#[derive(Drop)]
+#[derive(Clone, Copy)]
 pub enum Refusal {
     DivisorZero { pc: u64 },
     Beyond { missing: u64 },
@@ -16,7 +16,7 @@ pub enum Refusal {
     Malformed,
 }
 
-#[derive(Drop)]
+#[derive(Clone, Copy)]
 pub enum Stop {
     Fuel,
     Ebreak,

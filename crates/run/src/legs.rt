@@ -10,7 +10,7 @@ use state::State;
 use step::leg::{Gone, goes_on};
 
 // A run on its way: whether it goes on, how many steps it may still take, and what it answers if it does not go on.
-#[derive(Drop)]
+#[derive(Clone, Copy)]
 pub struct Going {
     pub on: bool,
     pub choices: Choices,

@@ -16,7 +16,7 @@ use step::{leg, takes};
 
 pub mod legs; // legs.rt: a run as its legs
 
-#[derive(Drop)]
+#[derive(Clone, Copy)]
 pub struct Ran {
     pub stop: Stop,
     pub steps: u64,

@@ -6,7 +6,7 @@ pub mod formed; // formed.rt: the states that refusal 9 turns away
 pub mod registers; // registers.rt: the registers, in three lent arrays
 
 // A whole register is kept as its value, an accumulated one as low + 2^30 * high.
-#[derive(Drop)]
+#[derive(Clone, Copy)]
 pub struct State {
     pub pc: u64,
     pub halted: bool,

@@ -15,7 +15,7 @@ use pending::{Checks, Room};
 use state::State;
 
 // How the last step went, the steps, the checks that the last one asks for, and its pc.
-#[derive(Drop)]
+#[derive(Clone, Copy)]
 pub struct Gone {
     pub went: Went,
     pub steps: u64,

@@ -14,7 +14,7 @@ use state::State;
 
 pub mod leg; // leg.rt: the loop of a run, over which all runs go
 
-#[derive(Drop)]
+#[derive(Clone, Copy)]
 pub struct OneStep {
     pub went: Went,
     pub count: usize,

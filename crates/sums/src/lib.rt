@@ -13,7 +13,7 @@ use labels::text::{byte, letter, skip};
 use numbers::{Both, distance, joined};
 
 // What is read from a place: a value, and the place after it.
-#[derive(Drop)]
+#[derive(Clone, Copy)]
 pub enum Read {
     Value(u64, usize),
     Bad,

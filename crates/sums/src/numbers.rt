@@ -3,7 +3,7 @@ ghost use Rattle.std.specs.Prelude.{◌≡◌, ◌+◌, ◌*◌, ◌^◌};
 ghost use Rattle.sums.specs.Sums.{checked, signed, join, dif};
 ghost use Rattle.sums.specs.Code.{of64, value_read, sign_of, op_of};
 
-#[derive(Drop)]
+#[derive(Clone, Copy)]
 pub(crate) enum Both {
     Of(u64),
     Over,

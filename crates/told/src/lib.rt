@@ -4,7 +4,7 @@ ghost use Rattle.told.specs.Told.{done_told, refused_told};
 
 // `length` is the bytes that were written.
 #[repr(C)]
-#[derive(Drop)]
+#[derive(Clone, Copy)]
 pub struct Told {
     pub code: u64,
     pub particular: u64,

@@ -12,7 +12,7 @@ pub const ANSWER_BUFFER: usize = 32;
 
 pub const LIST_BUFFER: usize = 16;
 
-#[derive(Drop)]
+#[derive(Clone, Copy)]
 pub struct Call {
     pub is_listed: bool,
     pub mode: u64,
@@ -27,7 +27,7 @@ pub struct Call {
 }
 
 // Where each part begins, and the last ends.
-#[derive(Drop)]
+#[derive(Clone, Copy)]
 pub struct Places {
     pub state: usize,
     pub memory: usize,

@@ -3,7 +3,7 @@ ghost use Rattle.std.specs.Prelude.{◌≤◌};
 
 use crate::call::NUMBERS;
 
-#[derive(Drop)]
+#[derive(Clone, Copy)]
 pub struct Line {
     // among the text's lines, from 1
     pub number: u64,

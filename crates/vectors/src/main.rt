@@ -9,7 +9,7 @@ use call::NUMBERS;
 use line::Line;
 use tally::Tally;
 
-#[derive(Drop)]
+#[derive(Clone, Copy)]
 struct Progress {
     line: Line,
     tally: Tally,

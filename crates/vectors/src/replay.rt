@@ -7,7 +7,7 @@ use crate::call::{
 };
 use machines::oracle_run;
 
-#[derive(Drop)]
+#[derive(Clone, Copy)]
 pub struct Compared {
     pub is_listed: bool,
     pub code_differs: bool,
@@ -17,7 +17,7 @@ pub struct Compared {
     pub lists_differ: bool,
 }
 
-#[derive(Drop)]
+#[derive(Clone, Copy)]
 struct Replayed {
     code: u64,
     lists_differ: bool,

@@ -4,7 +4,7 @@ use crate::replay::Compared;
 // So many lines that differ are named, and so many malformed ones.
 const NAMED: u64 = 20;
 
-#[derive(Drop)]
+#[derive(Clone, Copy)]
 pub struct Tally {
     pub calls: u64,
     pub listed: u64,
