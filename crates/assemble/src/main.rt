@@ -1,5 +1,7 @@
 // Assembles the text on standard input, and writes the bytes of its words on standard output. Of a text that is refused nothing is
 // written there, and one line on standard error: which refusal, and of a bad line its number, its first mistake and the column.
+#![tactic(auto)]
+
 mod mistake; // mistake.rt: what is wrong with a line
 mod noting; // noting.rt: the labels of a text, and one of its lines
 mod operands; // operands.rt: registers, and an immediate at the end

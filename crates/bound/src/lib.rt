@@ -1,4 +1,6 @@
 // Notes of how many bits a value has, as `ValueBound`: what each kind of result notes.
+#![tactic(auto)]
+
 ghost use Rattle.std.specs.Prelude.{◌≡◌, max};
 ghost use Rattle.bound.specs.Bits.{capped, bits_of, after_add, after_larger, after_mul, after_div, after_and, after_shl, after_srl, after_sra, after_cmp, after_load, needs_check};
 

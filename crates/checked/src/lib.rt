@@ -1,4 +1,6 @@
 // Step and run over a lent list of records, in both modes: the legs of `run`, and what they ask for listed here.
+#![tactic(auto)]
+
 ghost use Rattle.std.specs.Prelude.{◌≡◌};
 ghost use Rattle.execute.specs.World.{world_of};
 ghost use Rattle.execute.specs.Rules.{rules_of};

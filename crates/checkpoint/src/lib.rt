@@ -1,5 +1,7 @@
 // Checkpoints: a state and a memory as an image, which a student hands in and a grader reads. The table of contents first, then the
 // state's bytes, then each page that holds a nonzero byte, behind its address.
+#![tactic(auto)]
+
 ghost use Rattle.std.specs.Prelude.{◌≡◌, ◌&&◌, eqb};
 ghost use Rattle.layout.specs.Layout.{STATE_BYTES, admissible};
 ghost use Rattle.checkpoint.specs.Calls.{memory_fits, wrote, writing_of, ReadLeaves};

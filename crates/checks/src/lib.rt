@@ -1,4 +1,6 @@
 // Pending checks as one lent slice of records, and how many of them are in use.
+#![tactic(auto)]
+
 ghost use Rattle.std.specs.Prelude.{◌≡◌, set};
 ghost use Rattle.pending.specs.Pending.{empty_answer, empty_lists, entry_at};
 ghost use Rattle.checks.specs.Records.{listed, answer_to, with_one};

@@ -1,5 +1,7 @@
 // What the two programs share: memory read from standard input, and the lines that they print. No contract can say what a program
 // reads or writes, so these functions promise nothing; what they print is tested.
+#![tactic(auto)]
+
 use refusal::Stop;
 use state::{State, registers};
 

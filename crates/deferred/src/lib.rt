@@ -1,5 +1,7 @@
 // Add, Sub and Addi on limbs, as deferred.rs has them with document 01's changes. An accumulated register is kept as
 // low + 2^30 * high. What is kept is decided before anything changes.
+#![tactic(auto)]
+
 ghost use Rattle.std.specs.Prelude.{◌≡◌, true, cond};
 ghost use Rattle.state.specs.Registers.{registers, held_at, bound_at, normalise, Becomes};
 ghost use Rattle.effect.specs.Notes.{document_notes};

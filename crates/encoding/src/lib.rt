@@ -1,4 +1,6 @@
 // Fields of a word, the raw encoders and the kinds of words: the Rust's encoding.rs, under its names.
+#![tactic(auto)]
+
 pub mod fields;
 pub mod kinds;
 pub mod raw;

@@ -1,4 +1,6 @@
 // A word obeyed, in the plain mode and in the deferred one.
+#![tactic(auto)]
+
 ghost use Rattle.std.specs.Prelude.{◌≡◌};
 ghost use Rattle.state.specs.Registers.{registers};
 ghost use Rattle.pending.specs.declared.Checks.TheVariants.{Nothing};

@@ -1,5 +1,7 @@
 // How an instruction of each opcode lies in its word (document 01, "Words"), and what a word of each form has beside its opcode and
 // registers.
+#![tactic(auto)]
+
 ghost use Rattle.std.specs.Prelude.{◌≡◌, ◌/◌, ◌^◌};
 ghost use Rattle.encoding.specs.Fields.{fits_in};
 ghost use Rattle.opcode.specs.Opcodes.{form_of};

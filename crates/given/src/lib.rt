@@ -1,4 +1,6 @@
 // One given instruction, in the plain mode and in the deferred one.
+#![tactic(auto)]
+
 ghost use Rattle.std.specs.Prelude.{◌≡◌};
 ghost use Rattle.refusal.specs.Stops.{refusal_of};
 ghost use Rattle.words.specs.Words.{decode_in};

@@ -1,4 +1,6 @@
 // What the host lends, and its call of the run.
+#![tactic(auto)]
+
 ghost use Rattle.std.specs.Prelude.{◌≡◌, ◌&&◌, eqb, leb};
 ghost use Rattle.pending.specs.Pending.{no_lists};
 ghost use Rattle.state.specs.Formed.{registers_of};

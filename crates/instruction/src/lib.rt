@@ -1,4 +1,6 @@
 // The instructions, and their opcodes and operands.
+#![tactic(auto)]
+
 pub mod operands;
 
 use opcode::Opcode;

@@ -1,5 +1,7 @@
 // The bytes that a host lends. Those of a state: pc (8), halt mark, 7 zeros; then for each register kind, bound, 6 zeros, two
 // numbers (8 each).
+#![tactic(auto)]
+
 pub mod answer; // answer.rt: the bytes of an answer
 pub mod laid; // laid.rt: which bytes are those of a state
 mod records; // records.rt: a register's record as three numbers

@@ -1,4 +1,6 @@
 // One thin entry that steps a state which its host lends.
+#![tactic(auto)]
+
 ghost use Rattle.std.specs.Prelude.{◌≡◌};
 ghost use Rattle.execute.specs.World.{world_of};
 ghost use Rattle.execute.specs.Rules.{rules_of};

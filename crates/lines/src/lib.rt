@@ -1,4 +1,6 @@
 // A line of the assembler's language.
+#![tactic(auto)]
+
 mod instructions; // instructions.rt: an instruction's operands and word
 mod operands; // operands.rt: registers and numbers
 

@@ -1,5 +1,7 @@
 // One given instruction, one step, and a run with the three lists, over the bytes of a state, exported for the comparison with the
 // Rust: `execute`, `step` and `run`. Bytes that are no state's and modes other than 0 and 1 are refused (9).
+#![tactic(auto)]
+
 ghost use Rattle.std.specs.Prelude.{◌≡◌};
 ghost use Rattle.opcode.specs.Opcodes.{opcode_number, opcode_in};
 ghost use Rattle.execute.specs.World.{world_of};

@@ -1,4 +1,6 @@
 // Memory is one lent slice from address 0, little-endian: loads, stores and the fetch of a word, each served or refused.
+#![tactic(auto)]
+
 ghost use Rattle.std.specs.Prelude.{◌≡◌, ◌+◌, ◌%◌, ◌≤◌, eqb, leb, length};
 ghost use Rattle.memory.specs.Bytes.{number_at, put_at};
 ghost use Rattle.memory.specs.Memory.{size_of, access_of, beyond_at, load_of, store_of, memory_after, fetch_of};

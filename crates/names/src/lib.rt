@@ -1,4 +1,6 @@
 // The names of the fifty opcodes, as keys: what the assembler reads and the printer writes.
+#![tactic(auto)]
+
 mod keys; // keys.rt: the fifty
 
 ghost use Rattle.std.specs.Prelude.{◌≡◌};

@@ -1,4 +1,6 @@
 // normalize.rs, over a state by value, at limbs of 20 and 30 bits.
+#![tactic(auto)]
+
 ghost use Rattle.std.specs.Prelude.{◌≡◌, ◌<◌, ◌+◌, ◌*◌, ◌^◌, get_or};
 ghost use Rattle.normalize.specs.Normalizing.{result_of, zeros, made_whole, unneeded, malformed, has_carries, total_carry, would_overflow, normalize_and_write, normalize_register, normalize_if_near_overflow};
 

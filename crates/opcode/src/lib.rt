@@ -1,4 +1,6 @@
 // The fifty opcodes (document 01, "Words") and their numbers, and the forms that words have.
+#![tactic(auto)]
+
 ghost use Rattle.std.specs.Prelude.{◌≡◌, true, eqb};
 ghost use Rattle.encoding.specs.Fields.{within};
 ghost use Rattle.opcode.specs.Opcodes.{opcode_number, opcode_in};

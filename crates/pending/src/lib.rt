@@ -1,4 +1,6 @@
 // Pending checks, in three lent lists of numbers and a count: values, the bounds that were noted of them, and pcs.
+#![tactic(auto)]
+
 ghost use Rattle.std.specs.Prelude.{◌≡◌, set};
 ghost use Rattle.pending.specs.Pending.{lists, lengths_fit, room_at, lacks, checks_of, appended, listing, append_answer, append_lists, empty_answer, empty_lists, entry_at};
 

@@ -1,5 +1,7 @@
 // Prints the program whose words' bytes are on standard input, an instruction a line, on standard output. Of words that are refused
 // nothing is written there, and one line on standard error: which refusal, and the word if it is one of a word.
+#![tactic(auto)]
+
 ghost use Rattle.io.specs.Counts.{IsPrefixLen};
 
 // As many as memory has.

@@ -1,4 +1,6 @@
 // The print of a program.
+#![tactic(auto)]
+
 mod digits; // digits.rt: numbers in decimal
 mod lines; // lines.rt: a line
 mod measure; // measure.rt: the first pass

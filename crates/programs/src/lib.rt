@@ -1,4 +1,6 @@
 // A program as text: its words, or its first bad line.
+#![tactic(auto)]
+
 mod checking; // checking.rt: the first bad line
 mod noting; // noting.rt: labels into the table
 mod spans; // spans.rt: a text line by line

@@ -1,4 +1,6 @@
 // Why a step or a call is refused, and why a run stops (document 01, "Stops and refusals").
+#![tactic(auto)]
+
 ghost use Rattle.std.specs.Prelude.{◌≡◌};
 ghost use Rattle.refusal.specs.Stops.{number_of, particular_of, code_of, particular_at};
 

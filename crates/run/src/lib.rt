@@ -1,4 +1,6 @@
 // The fuelled run, in both modes.
+#![tactic(auto)]
+
 ghost use Rattle.std.specs.Prelude.{◌≡◌, ◌+◌, ◌^◌, ◌<◌};
 ghost use Rattle.execute.specs.World.{world_of};
 ghost use Rattle.execute.specs.Rules.{document_rules};

@@ -1,4 +1,6 @@
 // Runs the zkIR program on standard input in the plain mode, and prints how it stopped and the registers that are not zero.
+#![tactic(auto)]
+
 use refusal::{Refusal, Stop};
 
 fn main() {

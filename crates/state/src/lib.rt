@@ -1,4 +1,6 @@
 // The machine's state and its registers.
+#![tactic(auto)]
+
 ghost use Rattle.std.specs.Prelude.{◌≡◌};
 ghost use Rattle.state.specs.Formed.{fresh_at};
 

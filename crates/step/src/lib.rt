@@ -1,4 +1,6 @@
 // A single step: the word at the pc is fetched and obeyed, and the checks that it asks for are listed.
+#![tactic(auto)]
+
 ghost use Rattle.std.specs.Prelude.{◌≡◌, ◌&&◌};
 ghost use Rattle.state.specs.Formed.{registers_of};
 ghost use Rattle.execute.specs.World.{world_of};

@@ -1,4 +1,6 @@
 // Sums of numbers and labels, read from a line: `sum` and `term` call each other, and the depth falls.
+#![tactic(auto)]
+
 mod digits;
 mod numbers;
 

@@ -1,4 +1,6 @@
 // The host's calls on programs as text.
+#![tactic(auto)]
+
 ghost use Rattle.std.specs.Prelude.{◌≡◌};
 ghost use Rattle.printing.specs.Print.{print_told, print_leaves};
 ghost use Rattle.programs.specs.Promise.{Assembled, leaves};

@@ -1,4 +1,6 @@
 // What those calls of the host answer that tell more than a code.
+#![tactic(auto)]
+
 ghost use Rattle.std.specs.Prelude.{◌≡◌};
 ghost use Rattle.told.specs.Told.{done_told, refused_told};
 

@@ -1,5 +1,7 @@
 // Replays the oracle's answers through the library: a line of standard input is a call with what it must leave, in the form
 // that oracle/README.md describes. Prints what was met and what differs.
+#![tactic(auto)]
+
 mod call; // call.rt: the call that a line's numbers describe, and where its parts stand
 mod line; // line.rt: a line, as its bytes come
 mod replay; // replay.rt: the call made, and all that it leaves compared

@@ -1,1 +1,3 @@
 // No code: what the proofs of walked functions share stands in proofs/.
+#![tactic(auto)]
+

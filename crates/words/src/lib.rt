@@ -1,4 +1,6 @@
 // Words and instructions (document 01, "Words"): a word read, and an instruction's word made.
+#![tactic(auto)]
+
 pub mod decoder;
 pub mod encoder;
 

@@ -1,0 +1,7 @@
+use mathlib.Core.Path.{◌∙◌}
+use Rattle.memory.proofs.Numbers.{read-four}
+use borrow.Author.Rules.{rules}
+use Rattle.memory.proofs.bytes.four_at.Goals as goal
+
+pub returns : goal.returns
+returns c = rw (c.wide-4.ensures.0, c.wide-3.ensures.0, c.wide-2.ensures.0, c.wide.ensures.0) (read-four _ _ c.requires)

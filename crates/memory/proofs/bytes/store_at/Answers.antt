@@ -1,0 +1,23 @@
+use Prim.Native.Nat.{◌≤◌, ◌+◌, ◌-◌}
+use mathlib.Core.Path.{◌≡◌, refl, sym, ◌∙◌}
+use native.Mathlib.Omega.{arith}
+use native.Mathlib.Nat.{add-zero, sub_self, sub-zero}
+use borrow.Author.Rules.{rules}
+use lib.ListN.{length, length-set}
+use lib.Seq.{sets}
+use Rattle.memory.specs.Bytes.{bytes}
+use Rattle.memory.proofs.Numbers.{store-more}
+use Rattle.memory.proofs.bytes.store_at.Goals as goal
+
+pub loop-i-preserved : goal.loop-i-preserved
+loop-i-preserved c =
+    let a = c.args in
+    let l = c.loop-i in
+    (simp length-set l.invariant.0, search rules, sym (store-more l.m a.at a.n l.i l.v (search rules)) ∙ l.invariant.2)
+
+pub returns : goal.returns
+unfolding bytes
+returns c =
+    let l = c.loop-i in
+    let z : l.i ≡ c.args.n = omega arith in
+    rw (z, sub_self) at l.invariant.2

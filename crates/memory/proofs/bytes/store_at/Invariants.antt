@@ -1,0 +1,17 @@
+use Prim.Native.Nat.{◌≤◌, ◌+◌, ◌-◌}
+use mathlib.Core.Path.{◌≡◌, refl, sym, ◌∙◌}
+use native.Mathlib.Omega.{arith}
+use native.Mathlib.Nat.{add-zero, sub_self, sub-zero}
+use borrow.Author.Rules.{rules}
+use lib.ListN.{length, length-set}
+use lib.Seq.{sets}
+use Rattle.memory.specs.Bytes.{bytes}
+use Rattle.memory.proofs.Numbers.{store-more}
+use Rattle.memory.proofs.bytes.store_at.Given as goal
+
+abbrev pub invariant-loop-i : goal.invariant-loop-i
+invariant-loop-i l =
+    (length l.m ≡ length l.initial.m) × (l.i ≤ l.n) × (sets l.m (l.at + l.i) (bytes (l.n - l.i) l.v) ≡ sets l.initial.m l.at (bytes l.n l.value))
+
+abbrev pub decreases-loop-i : goal.decreases-loop-i
+decreases-loop-i l = l.n - l.i

@@ -1,0 +1,16 @@
+use Prim.Native.Nat.{◌≤◌, ◌<◌, ◌+◌, ◌-◌, ◌*◌, ◌^◌}
+use mathlib.Core.Path.{◌≡◌, refl}
+use native.Mathlib.Omega.{arith}
+use native.Mathlib.Nat.{sub_self, sub-zero, add-zero}
+use lib.Dec.{lit<}
+use borrow.Author.Rules.{rules}
+use lib.ListN.{take, drop, get_or}
+use Rattle.memory.specs.Bytes.{number_of_bytes}
+use Rattle.memory.proofs.Numbers.{read_more, more_lt, fits_lt}
+use Rattle.memory.proofs.bytes.word_at.Given as goal
+
+abbrev pub invariant-loop-i : goal.invariant-loop-i
+invariant-loop-i l = (l.i ≤ l.n) × (l.v ≡ number_of_bytes (take (l.n - l.i) (drop (l.at + l.i) l.m))) × (l.v < 256 ^ (l.n - l.i))
+
+abbrev pub decreases-loop-i : goal.decreases-loop-i
+decreases-loop-i l = l.i

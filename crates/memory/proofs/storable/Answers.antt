@@ -1,0 +1,13 @@
+use Rattle.memory.proofs.Accesses.{on-served, on-beyond, on-mis}
+use mathlib.Core.Path.{sym, ◌∙◌}
+use borrow.Author.Rules.{rules}
+use Rattle.memory.proofs.storable.Goals as goal
+
+pub returns-in-Served : goal.returns-in-Served
+returns-in-Served c = on-served _ _ _ _ (sym c.reach.ensures ∙ c.in-Served.is)
+
+pub returns-in-Beyond : goal.returns-in-Beyond
+returns-in-Beyond c = rw c.beyond_at.ensures (on-beyond _ _ _ _ (sym c.reach.ensures ∙ c.in-Beyond.is))
+
+pub returns-in-Misaligned : goal.returns-in-Misaligned
+returns-in-Misaligned c = on-mis _ _ _ _ (sym c.reach.ensures ∙ c.in-Misaligned.is)

@@ -1,0 +1,10 @@
+use Rattle.pending.proofs.Lists.{no_place, a-place}
+use native.Mathlib.Omega.{arith}
+use borrow.Author.Rules.{rules}
+use Rattle.pending.proofs.note.Goals as goal
+
+pub returns-then-values-count : goal.returns-then-values-count
+returns-then-values-count c = no_place _ _ _ _ (omega arith)
+
+pub returns : goal.returns
+returns c = rw (c.put_number.ensures, c.put_bound.ensures, c.put_number-2.ensures) (a-place _ _ _ _ (omega arith))

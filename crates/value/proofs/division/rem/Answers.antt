@@ -1,0 +1,17 @@
+use Rattle.std.proofs.Common.{◌∙◌, arith, rules}
+use Rattle.value.proofs.Quotients.{rem-by-zero, rem-pair, defined, remainder}
+use Rattle.value.proofs.division.rem.Goals as goal
+
+pub returns-then-b-eq0 : goal.returns-then-b-eq0
+returns-then-b-eq0 c = rem-by-zero c.args.a c.args.b (omega arith) c.if-b-eq0.true
+
+pub returns-then-overflows : goal.returns-then-overflows
+returns-then-overflows c =
+    let found = c.overflows.ensures.0 c.if-overflows.true in
+    rem-pair c.args.a c.args.b found.0 found.1
+
+pub returns : goal.returns
+returns c =
+    let start = c.before in
+    c.pattern.ensures
+    ∙ remainder start.args.a start.args.b (omega arith) (omega arith) _ _ c.reading-x.ensures c.reading-y.ensures

@@ -1,0 +1,6 @@
+use Rattle.std.proofs.Common.{◌∙◌, arith, rules}
+use Rattle.value.proofs.Signs.{sign_kept}
+use Rattle.value.proofs.extension.extend.Goals as goal
+
+pub returns : goal.returns
+returns c = let a = c.args in c.pattern.ensures ∙ sign_kept a.k a.x _ c.requires (omega arith) c.reading_32.ensures

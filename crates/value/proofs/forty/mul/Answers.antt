@@ -1,0 +1,6 @@
+use Rattle.std.proofs.Common.{◌/◌, ◌%◌, ◌^◌, arith, rules}
+use Rattle.value.proofs.Products.{largest, low_product}
+use Rattle.value.proofs.forty.mul.Goals as goal
+
+pub returns : goal.returns
+returns c = low_product c.args.a c.args.b
