@@ -39,6 +39,7 @@ pub fn form_of(op: Opcode) -> Form
 }
 
 // The bits of a word above those that its form uses.
+#[tactic(auto, unfolding(crate::specs::Forms::used_bits))]
 pub fn unused(f: Form, word: u32) -> u32
     ensures { result ≡ word / 2 ^ used_bits f }
 {
@@ -57,6 +58,7 @@ fn wide(x: u32) -> u64
 }
 
 // The immediate or offset with its sign, as an instruction holds it.
+#[tactic(auto, unfolding(crate::specs::Forms::immediate_of))]
 pub fn immediate(f: Form, word: u32) -> u64
     ensures { result ≡ immediate_of f word }
 {
@@ -82,6 +84,7 @@ fn fits_21(imm: u64) -> bool
 }
 
 // Whether the field of a form holds a number.
+#[tactic(auto, unfolding(crate::specs::Forms::imm_fits))]
 pub fn imm_fits(f: Form, imm: u64) -> bool
     ensures { result ≡ imm_fits f imm }
 {

@@ -225,7 +225,19 @@ pub fn instruction_of(p: Parts) -> Instruction
         Opcode::Sb | Opcode::Sh | Opcode::Sw | Opcode::Sd => store(store_kind(op), p),
         Opcode::Beq | Opcode::Bne | Opcode::Blt | Opcode::Bge | Opcode::Bltu | Opcode::Bgeu =>
             branch(branch_kind(op), p),
-        _ => operate(operation(op), p),
+        Opcode::Mulh
+        | Opcode::And
+        | Opcode::Or
+        | Opcode::Xor
+        | Opcode::Sll
+        | Opcode::Srl
+        | Opcode::Sra
+        | Opcode::Slt
+        | Opcode::Sltu
+        | Opcode::Sge
+        | Opcode::Sgeu
+        | Opcode::Seq
+        | Opcode::Sne => operate(operation(op), p),
     }
 }
 

@@ -137,6 +137,7 @@ pub fn opcode_number(op: Opcode) -> u8
 }
 
 // Of a number that has one.
+#[tactic(auto, unfolding(crate::specs::Opcodes::first_with, crate::specs::Opcodes::all))]
 fn opcode_at(n: u8) -> Opcode
     requires { within 1 50 n ≡ true }
     ensures { Found.Op result ≡ opcode_in opcode_number n }

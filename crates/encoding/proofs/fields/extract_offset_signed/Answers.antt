@@ -1,8 +1,7 @@
-use Rattle.encoding.proofs.Signs.{low_read, high_fits, high_read}
+use Rattle.encoding.proofs.Signs.{low_read, high_read}
 use Rattle.encoding.specs.Fields.{signed_of}
 use native.Mathlib.Omega.{arith}
 use mathlib.Core.Path.{ap, ◌∙◌}
-use borrow.Author.Rules.{rules}
 use Rattle.encoding.proofs.fields.extract_offset_signed.Goals as goal
 
 pub returns-then-offset : goal.returns-then-offset

@@ -3,4 +3,4 @@ use Rattle.value.proofs.Signs.{down_fits, down-reads}
 use Rattle.value.proofs.signed.reading_32.Goals as goal
 
 pub returns : goal.returns
-returns c = down-reads c.args.x _ (omega arith) c.wrapping_add_u32.ensures
+returns c = down-reads c.args.x _ (omega arith) c.wrapping_add_u32.ensures.value

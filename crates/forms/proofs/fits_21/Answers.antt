@@ -1,0 +1,6 @@
+use Rattle.encoding.proofs.Extends.{fits-test}
+use Rattle.std.proofs.Common.{arith, rules}
+use Rattle.forms.proofs.fits_21.Goals as goal
+
+pub returns : goal.returns
+returns c = rw c.wrapping_add_u64.ensures.value (fits-test 20 (omega arith) c.args.imm (omega arith))
