@@ -4,7 +4,7 @@ pub use base.Fml.{GName, Lft, Share, fat, fbor, fdies, flft, fobs, froom, ftrue}
 pub use base.Logic.{SProp, emp, ent, fst∗, id⊢, sep, via}
 pub use borrow.Author.Tests.{le-ltb, lt-ltb}
 pub use contract.Monad.{Fun, fact}
-pub use contract.Running.{given_of, tables}
+pub use contract.Running.{tables}
 unfoldable pub use contract.Running.{tables_of}
 pub use denote.Builtin.{bool, u64, u8, unit, usize}
 pub use denote.Exit.{yes}
@@ -27,8 +27,8 @@ pub use denote.Triple.Spec.{Meets, triple_of}
 pub use denote.Triple.Statement.{Contract, Triple}
 pub use denote.Triple.Table.{cited, entered}
 pub use denote.Triple.Walked.{AllGo, Stays, Walks, ends_at, gave_slice, Goes-gave_slice, Goes-none, Goes-none_slice, Goes-ref, Goes-slice, needs, says, stay_none, stay_none_slice, stay_ref, stay_slice, walk_Meets, walk_of, walked}
-pub use ghost.Atoms.{Atoms, sem}
-pub use seplogic.Ra.TreeShare.{full_share}
+pub use ghost.Atoms.{Atoms}
+pub use base.Fraction.{full_share}
 pub use seplogic.Ra.Ura.{Ura}
 pub use lib.Dec.{leb→le, lit<, nleb→lt}
 pub use lib.ListN.{get_or, length, length-set, set}
@@ -46,7 +46,7 @@ pub use prog.Routine.{Routine}
 pub use prog.Wp.{Calls, Heap, Loops, Tables, WpFn}
 unfoldable pub use prog.Wp.{after_turn}
 pub use sound.WpLaws.{FmC, WpFn-mono, fm_of}
-pub use types.Kit.{ !, Given, Item, ◌$◌, ◌∵◌, ◌⊛◌, at_ret, await, by, done, drop, feq_i, feq_l, fjoin, fjoin3, frame, fsplit, fsplit3, join, keep, later, move, pick, qed, raw, rewrite, some, split, suffices, use0, use1, use2, use3, ‵, ⋆}
+pub use types.Kit.{ !, Item, ◌$◌, ◌∵◌, ◌⊛◌, at_ret, await, by, done, drop, feq_i, feq_l, fjoin, fjoin3, frame, fsplit, fsplit3, join, keep, later, move, pick, qed, raw, rewrite, some, split, suffices, use0, use1, use2, use3, ‵, ⋆}
 pub use types.Part.{agg, look_in, sub, whole}
 pub use types.Run.{addr, again, alloc0, alloc1, and_then, assigns, assigns_last, bin, blocks, branches, enter, exec, first, fld, forget, free0, free1, from, hop, init, land, lit, load, look, look_raw, loops, no_more, of_opd, params1, pass0, pass1, returns, returns_within, skips, stop, store, store_raw, unit_lit}
 pub use types.SemTy.{Body}
