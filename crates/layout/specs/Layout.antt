@@ -1,5 +1,5 @@
 -- Document 01 on the host's call: the bytes of a state. Every number in them is little-endian.
-use Rattle.std.specs.Prelude.{ℕ, zero, suc, ◌+◌, ◌*◌, ◌%◌, ◌^◌, Bool, true, false, cond, ◌&&◌, List, [], ◌∷◌, ◌++◌, length, leb, eqb}
+use Rattle.std.specs.Prelude.{ℕ, zero, suc, ◌+◌, ◌*◌, ◌%◌, ◌^◌, Bool, cond, ◌&&◌, List, [], ◌∷◌, ◌++◌, length, leb, eqb}
 use Rattle.memory.specs.Bytes.{bit, bytes, number_at}
 use Rattle.state.specs.Held.{Held, Whole, Limbs, kept, waits}
 use Rattle.state.specs.Registers.{Registers, holds, noted}
