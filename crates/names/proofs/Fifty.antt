@@ -1,18 +1,18 @@
 -- The fifty names, computed once over the list of opcodes: they differ, and the code's table has them. Assumes nothing.
 use mathlib.Core.Path.{◌≡◌, refl, sym, ap, ◌∙◌}
-use mathlib.Core.Bool.{Bool, true, false, cond, ◌&&◌}
-use mathlib.Core.List.{List, [], ◌∷◌, map}
+use mathlib.Core.Bool.{Bool, true, false, ◌&&◌}
+use mathlib.Core.List.{List, map}
 use Prim.Native.Nat.{ℕ, ◌-◌, ◌≤◌}
 use native.Mathlib.Omega.{arith}
 use lib.Dec.{leb}
 use lib.ListN.{get_or}
-use borrow.Author.Tests.{ne_eqb, leb-true}
+use borrow.Author.Tests.{leb-true}
 use Rattle.encoding.specs.Fields.{within}
 use Rattle.labels.specs.Bytes.{key_from, key_of}
 use Rattle.opcode.specs.Opcodes.{opcode_number, all, first_with, opcode_in}
 use Rattle.opcode.specs.declared.Opcode.{Opcode}
 use Rattle.opcode.specs.declared.Opcode.TheVariants as O
-use Rattle.opcode.specs.declared.Found.TheVariants.{Op, Nothing}
+use Rattle.opcode.specs.declared.Found.TheVariants.{Op}
 use Rattle.opcode.proofs.Arms.{everywhere}
 use Rattle.opcode.proofs.Variants.{place, all-at}
 use Rattle.names.specs.Names.{name_of, name_key}
@@ -39,18 +39,3 @@ numbered op =
 pub key-at : (op : Opcode) → get_or (map name_key all) (opcode_number op - 1) 0 ≡ name_key op
 unfolding all key_from
 key-at = everywhere all O.Add place all-at (λ (op : Opcode). get_or (map name_key all) (opcode_number op - 1) 0) (λ (op : Opcode). name_key op) refl refl
-
--- ---- a name that none of the fifty has, as a `match` finds it out: one after another
-abbrev pub NoneOf : Type 0 → List ℕ → ℕ → Type 0
-NoneOf N [] w = N
-NoneOf N (k ∷ ks) w = NoneOf (N × (w ≡ k → ⊥)) ks w
-
-none_first : (N : Type 0) (os : List Opcode) (w : ℕ) → NoneOf N (map name_key os) w → N × (Nothing ≡ first_with name_key os w)
-unfolding first_with
-none_first N [] w n = (n, refl)
-none_first N (o ∷ os) w n =
-    let r = none_first (N × (w ≡ name_key o → ⊥)) os w n in
-    (r.0.0, r.1 ∙ sym (ap (λ (t : Bool). cond t (Op o) (first_with name_key os w)) (ne_eqb w (name_key o) r.0.1)))
-
-pub none_named : (w : ℕ) → NoneOf (Unit {0}) (map name_key all) w → Nothing ≡ opcode_in name_key w
-none_named w n = (none_first (Unit {0}) all w n).1

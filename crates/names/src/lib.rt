@@ -76,6 +76,7 @@ pub fn name_of(op: Opcode) -> u64
 }
 
 // The opcode whose name has a key. A search in the table would copy it for each look.
+#[tactic(auto, unfolding(opcode::specs::Opcodes::all, opcode::specs::Opcodes::first_with, labels::specs::Bytes::key_from))]
 pub fn named(key: u64) -> Found
     ensures { result ≡ opcode_in name_key key }
 {

@@ -2,7 +2,7 @@
 ghost use Rattle.std.specs.Prelude.{◌≡◌};
 ghost use Rattle.encoding.specs.Fields.{field, signed_of};
 ghost use Rattle.encoding.specs.Kinds.{is_r, is_i, is_s, is_b, is_j};
-ghost use Rattle.encoding.specs.Words.{rWord, iWord, sWord, jWord};
+ghost use Rattle.encoding.specs.Words.{r_word, i_word, s_word, j_word};
 
 #[unsafe(no_mangle)]
 pub extern "C" fn oracle_extract_opcode(word: u32) -> u32
@@ -125,35 +125,35 @@ pub extern "C" fn oracle_is_jtype(word: u32) -> bool
 
 #[unsafe(no_mangle)]
 pub extern "C" fn oracle_encode_rtype(opcode: u32, rd: u32, rs1: u32, rs2: u32, funct: u32) -> u32
-    ensures { result ≡ rWord opcode rd rs1 rs2 funct }
+    ensures { result ≡ r_word opcode rd rs1 rs2 funct }
 {
     encoding::encode_rtype(opcode, rd, rs1, rs2, funct)
 }
 
 #[unsafe(no_mangle)]
 pub extern "C" fn oracle_encode_itype(opcode: u32, rd: u32, rs1: u32, imm: u32) -> u32
-    ensures { result ≡ iWord opcode rd rs1 imm }
+    ensures { result ≡ i_word opcode rd rs1 imm }
 {
     encoding::encode_itype(opcode, rd, rs1, imm)
 }
 
 #[unsafe(no_mangle)]
 pub extern "C" fn oracle_encode_stype(opcode: u32, rs1: u32, rs2: u32, imm: u32) -> u32
-    ensures { result ≡ sWord opcode rs1 rs2 imm }
+    ensures { result ≡ s_word opcode rs1 rs2 imm }
 {
     encoding::encode_stype(opcode, rs1, rs2, imm)
 }
 
 #[unsafe(no_mangle)]
 pub extern "C" fn oracle_encode_btype(opcode: u32, rs1: u32, rs2: u32, offset: u32) -> u32
-    ensures { result ≡ sWord opcode rs1 rs2 offset }
+    ensures { result ≡ s_word opcode rs1 rs2 offset }
 {
     encoding::encode_btype(opcode, rs1, rs2, offset)
 }
 
 #[unsafe(no_mangle)]
 pub extern "C" fn oracle_encode_jtype(opcode: u32, rd: u32, offset: u32) -> u32
-    ensures { result ≡ jWord opcode rd offset }
+    ensures { result ≡ j_word opcode rd offset }
 {
     encoding::encode_jtype(opcode, rd, offset)
 }

@@ -8,7 +8,7 @@ use mathlib.Core.List.{[], ◌∷◌}
 use lib.Dec.{eqb}
 use borrow.Author.Tests.{eq-eqb, eqb-true, lt-ltb, ltb-true}
 use Rattle.encoding.specs.Fields.{field, extended, fits_in}
-use Rattle.encoding.specs.Words.{bits, rWord, iWord, jWord}
+use Rattle.encoding.specs.Words.{bits, r_word, i_word, j_word}
 use Rattle.encoding.proofs.Extends.{cut-extended, extended-cut, extended_fits}
 use Rattle.encoding.proofs.Packed.{read_back, read_whole, made-back}
 use Rattle.refusal.specs.declared.Refusal.TheVariants.{UnusedBits, Malformed}
@@ -67,7 +67,7 @@ record Shows (n w used : ℕ) (got want : Parts) : Type 0 where
 module _ (n : ℕ) (p : Parts) (h : n < 128) where
   -- two registers and an immediate, whatever it stands for
   abbrev word-2 : ℕ
-  word-2 = iWord n p.a p.b p.imm
+  word-2 = i_word n p.a p.b p.imm
 
   number-2 : field 0 7 word-2 ≡ n
   number-2 = read_whole [] (bits 7 n) (bits 4 p.a ∷ bits 4 p.b ∷ bits 17 p.imm ∷ []) h
@@ -117,19 +117,19 @@ module _ (n : ℕ) (p : Parts) (h : n < 128) where
 
 -- ---- a word made of the fields that were read
 
-made-2 : (w i : ℕ) → w < 2 ^ 32 → i % 2 ^ 17 ≡ field 15 17 w → iWord (field 0 7 w) (field 7 4 w) (field 11 4 w) i ≡ w
+made-2 : (w i : ℕ) → w < 2 ^ 32 → i % 2 ^ 17 ≡ field 15 17 w → i_word (field 0 7 w) (field 7 4 w) (field 11 4 w) i ≡ w
 made-2 w i h e =
     let cut : i % 2 ^ 17 ≡ field 15 17 w % 2 ^ 17 = e ∙ sym (mod-mod (w / 2 ^ 15) (2 ^ 17)) in
     rw cut (made-back (7 ∷ 4 ∷ 4 ∷ 17 ∷ []) w h)
 
-made-1 : (w i : ℕ) → w < 2 ^ 32 → i % 2 ^ 21 ≡ field 11 21 w → jWord (field 0 7 w) (field 7 4 w) i ≡ w
+made-1 : (w i : ℕ) → w < 2 ^ 32 → i % 2 ^ 21 ≡ field 11 21 w → j_word (field 0 7 w) (field 7 4 w) i ≡ w
 made-1 w i h e =
     let cut : i % 2 ^ 21 ≡ field 11 21 w % 2 ^ 21 = e ∙ sym (mod-mod (w / 2 ^ 11) (2 ^ 21)) in
     rw cut (made-back (7 ∷ 4 ∷ 21 ∷ []) w h)
 
 module _ (op : Opcode) (w : ℕ) (h : w < 2 ^ 32) where
   signed-made : Fits (kept I (read I op w)) (fits_in 16 (extended 16 (field 15 17 w)))
-      × (iWord (field 0 7 w) (field 7 4 w) (field 11 4 w) (extended 16 (field 15 17 w)) ≡ w)
+      × (i_word (field 0 7 w) (field 7 4 w) (field 11 4 w) (extended 16 (field 15 17 w)) ≡ w)
   unfolding kept immediate_of
   signed-made = (
     record { a = omega arith; b = omega arith; c = omega arith; imm = extended_fits 16 (omega arith) (field 15 17 w) (omega arith) },
@@ -142,7 +142,7 @@ module _ (op : Opcode) (w : ℕ) (h : w < 2 ^ 32) where
   made R z =
       let funct : 0 ≡ field 19 13 w = omega arith in (
         record { a = omega arith; b = omega arith; c = omega arith; imm = refl },
-        ap (rWord (field 0 7 w) (field 7 4 w) (field 11 4 w) (field 15 4 w)) funct ∙ made-back (7 ∷ 4 ∷ 4 ∷ 4 ∷ 13 ∷ []) w h,
+        ap (r_word (field 0 7 w) (field 7 4 w) (field 11 4 w) (field 15 4 w)) funct ∙ made-back (7 ∷ 4 ∷ 4 ∷ 4 ∷ 13 ∷ []) w h,
       )
   made I z = signed-made
   made Shift z = (

@@ -1,7 +1,7 @@
 -- Document 01, "Words": the instruction of a word and the word of an instruction, in any numbering of the fifty.
 use Rattle.std.specs.Prelude.{ℕ, ◌/◌, ◌^◌, Bool, cond, ◌&&◌, ltb, eqb}
 use Rattle.encoding.specs.Fields.{field}
-use Rattle.encoding.specs.Words.{rWord, iWord, sWord, jWord}
+use Rattle.encoding.specs.Words.{r_word, i_word, s_word, j_word}
 use Rattle.refusal.specs.Stops.{refusal_of}
 use Rattle.opcode.specs.Opcodes.{form_of, opcode_in}
 use Rattle.forms.specs.Forms.{used_bits, immediate_of, imm_fits}
@@ -49,13 +49,13 @@ abbrev pub fits_of : Instruction → Bool
 fits_of i = parts_fit (parts_of i)
 
 unfoldable pub word_of : Form → ℕ → Parts → ℕ
-word_of R n p = rWord n p.a p.b p.c 0
-word_of I n p = iWord n p.a p.b p.imm
-word_of Shift n p = iWord n p.a p.b p.imm
-word_of S n p = sWord n p.a p.b p.imm
-word_of B n p = sWord n p.a p.b p.imm
-word_of J n p = jWord n p.a p.imm
-word_of Alone n p = rWord n 0 0 0 0
+word_of R n p = r_word n p.a p.b p.c 0
+word_of I n p = i_word n p.a p.b p.imm
+word_of Shift n p = i_word n p.a p.b p.imm
+word_of S n p = s_word n p.a p.b p.imm
+word_of B n p = s_word n p.a p.b p.imm
+word_of J n p = j_word n p.a p.imm
+word_of Alone n p = r_word n 0 0 0 0
 
 unfoldable pub encoded_in : (Opcode → ℕ) → Parts → Encoded
 encoded_in num p = cond (parts_fit p) (E.Word (word_of (form_of p.op) (num p.op) p)) (E.Refused (refusal_of 9 0))

@@ -1,0 +1,8 @@
+use Rattle.state.specs.Held.{low_of, high_of}
+use native.Mathlib.Omega.{arith}
+use borrow.Author.Rules.{rules}
+use Rattle.deferred.proofs.sums.constant.Goals as goal
+
+pub returns : goal.returns
+unfolding low_of high_of
+returns c = (rw c.from_constant.ensures, (omega arith, omega arith))

@@ -1,0 +1,11 @@
+use mathlib.Core.Path.{ap, ◌∙◌}
+use native.Mathlib.Omega.{arith}
+use Rattle.sums.specs.Sums.{checked}
+use Rattle.sums.proofs.Differences.{dif-eq}
+use Rattle.sums.proofs.numbers.plus.Goals as goal
+
+pub returns-then-w-ge-HALF : goal.returns-then-w-ge-HALF
+returns-then-w-ge-HALF c = ap checked (dif-eq _ _ _ _ (omega arith)) ∙ c.raised.ensures
+
+pub returns : goal.returns
+returns c = ap checked (dif-eq _ _ _ _ (omega arith)) ∙ c.lowered.ensures
