@@ -1,0 +1,13 @@
+use Rattle.state.specs.Registers.{normalise_to}
+use Rattle.deferred.specs.Sources.{sources, normalise_each}
+use Rattle.execute.specs.Modes.{settle_sources}
+use borrow.Author.Rules.{rules}
+use Rattle.execute.proofs.alone.settle_all.Goals as goal
+
+pub returns-in-Deferred : goal.returns-in-Deferred
+unfolding settle_sources sources normalise_each normalise_to
+returns-in-Deferred c = λ bs. rw c.in-Deferred.is (c.normalise_all.ensures bs)
+
+pub returns-in-Plain : goal.returns-in-Plain
+unfolding settle_sources
+returns-in-Plain c = λ bs. rw c.in-Plain.is

@@ -1,0 +1,8 @@
+use Rattle.execute.proofs.Finish.{on-limbs, not-on-limbs}
+use Rattle.execute.proofs.immediate.executed.Goals as goal
+
+pub returns-then-limbs : goal.returns-then-limbs
+returns-then-limbs c = rw c.onward.ensures (on-limbs _ _ _ _ _ _ (rw c.if-limbs.true at c.limbs.ensures))
+
+pub returns : goal.returns
+returns c = not-on-limbs _ _ _ _ _ _ _ (rw c.if-limbs.false at c.limbs.ensures) c.on_whole.ensures
