@@ -1,0 +1,6 @@
+use Rattle.run.proofs.Loops.{begins}
+use Rattle.std.proofs.Common.{◌∙◌, arith, rules}
+use Rattle.run.proofs.run_deferred.Goals as goal
+
+pub returns : goal.returns
+returns c = c.go.ensures ∙ rw c.begin.ensures (begins _ _ _ _ _ _ c.takes-taken.ensures)
