@@ -11,10 +11,12 @@ mod telling; // telling.rt: what is said of a refusal
 mod terms; // terms.rt: sums of numbers and labels
 mod values; // values.rt: numbers of 64 signed bits
 
-ghost use Rattle.io.specs.Counts.{IsPrefixLen};
+ghost use Rattle.std.specs.Prelude.{◌≡◌, ◌≤◌, length, take};
 
 use mistake::mistake_in;
 use noting::note_labels;
+use std::io;
+use std::io::Write;
 use telling::{tell_bad_line, tell_refusal};
 
 // The longest text. Its labels may take eight times its bytes, and all lies on the stack, which often has 8 MiB.
@@ -28,7 +30,8 @@ const LABELS: usize = TEXT + 1;
 
 // How many bytes of a buffer were written.
 fn within(n: u64, buffer: &[u8]) -> usize
-    ensures { IsPrefixLen result buffer.now }
+    ensures within { result ≤ length buffer.now }
+    ensures count { result ≡ length (take result buffer.now) }
 {
     let most = buffer.len();
     if n < most as u64 { n as usize } else { most }
@@ -36,53 +39,61 @@ fn within(n: u64, buffer: &[u8]) -> usize
 
 // How much of a table a text of so many bytes needs.
 fn room(bytes: usize, table: &[u64]) -> usize
-    ensures { IsPrefixLen result table.now }
+    ensures within { result ≤ length table.now }
+    ensures count { result ≡ length (take result table.now) }
 {
     let most = table.len();
     if bytes < most { bytes + 1 } else { most }
 }
 
-fn has_more() -> bool {
-    let mut more = [0u8; 1];
-    0 < io::read_full(0, &mut more)
-}
-
 // What is wrong with a line that is bad; the table is all zeros.
-fn tell_mistake(text: &[u8], table: &mut [u64], number: u64) {
+fn tell_mistake(rt: &impl Eprint, text: &[u8], table: &mut [u64], number: u64) -> io::Result<()> {
     let line = note_labels(text, table, number);
     let from = line.from;
     let stop = line.stop;
-    tell_bad_line(number, mistake_in(&text[from..stop], text, table, line.own));
+    tell_bad_line(
+        rt,
+        number,
+        mistake_in(&text[from..stop], text, table, line.own),
+    )
 }
 
-fn assemble(text: &[u8], words: &mut [u8], table: &mut [u64]) {
+fn assemble(
+    rt: &(impl Print + Eprint),
+    text: &[u8],
+    words: &mut [u8],
+    table: &mut [u64],
+) -> io::Result<()> {
     let told = programs::assemble(text, words, table);
     if told.code == 0 {
         let n = within(told.length, words);
-        io::write_all(1, &words[..n]);
-        return;
+        return io::writer(rt).write_all(&words[..n]);
     }
     if told.code == 10 {
-        tell_mistake(text, table, told.particular);
-        return;
+        return tell_mistake(rt, text, table, told.particular);
     }
-    tell_refusal(told.code);
+    tell_refusal(rt, told.code)
 }
 
 // Only what the text needs of the table is used, and so cleared.
-fn assemble_with(text: &[u8], words: &mut [u8], table: &mut [u64]) {
+fn assemble_with(
+    rt: &(impl Print + Eprint),
+    text: &[u8],
+    words: &mut [u8],
+    table: &mut [u64],
+) -> io::Result<()> {
     let n = room(text.len(), table);
-    assemble(text, words, &mut table[..n]);
+    assemble(rt, text, words, &mut table[..n])
 }
 
-fn main() {
+fn main(rt: HostRuntime) -> io::Result<()> {
     let mut text = [0u8; TEXT];
-    let n = io::read_full(0, &mut text);
-    if has_more() {
-        tell_refusal(9);
-        return;
+    let mut reader = rt.stdin();
+    let n = input::fill(&mut reader, &mut text)?;
+    if input::has_more(&mut reader)? {
+        return tell_refusal(&rt, 9);
     }
     let mut words = [0u8; WORDS];
     let mut table = [0u64; LABELS];
-    assemble_with(&text[..n], &mut words, &mut table);
+    assemble_with(&rt, &text[..n], &mut words, &mut table)
 }

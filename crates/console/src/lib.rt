@@ -4,60 +4,41 @@
 
 use refusal::Stop;
 use state::{State, registers};
+use std::io;
+use std::io::Read;
 
 pub const FUEL: u64 = 1_000_000;
 
-// Fills memory from standard input, and says whether there was more.
-pub fn read_memory(m: &mut [u8]) -> bool {
-    io::read_full(0, m);
-    let mut more = [0u8; 1];
-    0 < io::read_full(0, &mut more)
-}
-
-fn text(s: &[u8]) {
-    io::write_all(1, s);
-}
-
-fn number(n: u64) {
-    io::print_decimal(1, n);
+// Fills memory from a reader, and says whether there was more.
+pub fn read_memory<R: Read>(reader: &mut R, m: &mut [u8]) -> io::Result<bool> {
+    input::fill(reader, m)?;
+    input::has_more(reader)
 }
 
 // The first line.
-pub fn print_stop(stop: Stop, steps: u64, pc: u64) {
+pub fn print_stop(rt: &impl Print, stop: Stop, steps: u64, pc: u64) -> io::Result<()> {
     match stop {
-        Stop::Fuel => text(b"stop fuel"),
-        Stop::Ebreak => text(b"stop ebreak"),
-        Stop::Ecall => text(b"stop ecall"),
-        Stop::Refused(r) => {
-            text(b"refused ");
-            number(refusal::number_of(r));
-        }
+        Stop::Fuel => print!(rt; "stop fuel")?,
+        Stop::Ebreak => print!(rt; "stop ebreak")?,
+        Stop::Ecall => print!(rt; "stop ecall")?,
+        Stop::Refused(r) => print!(rt; "refused {}", refusal::number_of(r))?,
     }
-    text(b" steps ");
-    number(steps);
-    text(b" pc ");
-    number(pc);
-    text(b"\n");
+    println!(rt; " steps {steps} pc {pc}")
 }
 
-fn print_register(n: u8, value: u64) {
+fn print_register(rt: &impl Print, n: u8, value: u64) -> io::Result<()> {
     if value == 0 {
-        return;
+        return Ok(());
     }
-    text(b"R");
-    number(n as u64);
-    text(b" ");
-    number(value);
-    text(b"\n");
+    println!(rt; "R{n} {value}")
 }
 
 // The registers whose value is not zero, upwards.
-pub fn print_registers(s: State) {
+pub fn print_registers(rt: &impl Print, s: State) -> io::Result<()> {
     let regs = s.regs;
     let accumulated = s.accumulated;
-    let mut n: u8 = 0;
-    while n < 16 {
-        print_register(n, registers::value_at(&regs, &accumulated, n));
-        n += 1;
+    for n in 0..16u8 {
+        print_register(rt, n, registers::value_at(&regs, &accumulated, n))?;
     }
+    Ok(())
 }

@@ -26,6 +26,13 @@ pub high_read : (h x : ℕ) → 2 ^ h ≤ x → x < 2 ^ suc h → 2 ^ suc h < 2 
 unfolding signed_of
 high_read h x g l b = to_z-of_z {w = w32} (high_fits h x l b) ∙ rw (to_z_pos w32 {n = x} (omega arith), le-ltb x (2 ^ h) g)
 
+-- the same at the two widths, with the number that the code has
+pub high_imm : (x : ℕ) → 2 ^ 16 ≤ x → x < 2 ^ 17 → to_z w32 (of_z w32 (to_z w32 x -ℤ pos 131072)) ≡ signed_of 16 x
+high_imm x g l = high_read 16 x g l (omega arith)
+
+pub high_offset : (x : ℕ) → 2 ^ 20 ≤ x → x < 2 ^ 21 → to_z w32 (of_z w32 (to_z w32 x -ℤ pos 2097152)) ≡ signed_of 20 x
+high_offset x g l = high_read 20 x g l (omega arith)
+
 -- the definition's two cases, for callers
 pub read_low : (h x : ℕ) → x < 2 ^ h → signed_of h x ≡ pos x
 unfolding signed_of

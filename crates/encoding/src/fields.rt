@@ -76,6 +76,7 @@ pub fn extract_offset(inst: u32) -> u32
     (inst >> OFFSET_SHIFT) % (OFFSET_MASK + 1)
 }
 
+#[tactic(auto, using(crate::proofs::Signs::low_read, crate::proofs::Signs::high_imm))]
 pub fn extract_imm_signed(inst: u32) -> i32
     ensures { result ≡ signed_of 16 (field 15 17 inst) }
 {
@@ -87,6 +88,7 @@ pub fn extract_imm_signed(inst: u32) -> i32
     }
 }
 
+#[tactic(auto, using(crate::proofs::Signs::low_read, crate::proofs::Signs::high_offset))]
 pub fn extract_offset_signed(inst: u32) -> i32
     ensures { result ≡ signed_of 20 (field 11 21 inst) }
 {

@@ -8,7 +8,6 @@ use Rattle.labels.proofs.Steps.{passed}
 use Rattle.lines.specs.Reader.{nothing}
 use Rattle.lines.specs.Code.{is_end, start_of}
 use Rattle.lines.specs.declared.Start.{Start}
-use Rattle.lines.specs.declared.Start.TheVariants as Start
 
 none_left : (p : ℕ → Bool) (t : List ℕ) → nothing (past p t) ≡ true → every p t ≡ true
 unfolding past every

@@ -17,7 +17,7 @@ use Rattle.labels.specs.Reading.{tail_of, run_of, past, skip}
 use Rattle.sums.specs.Reader.{Got, got, bad}
 use Rattle.labels.proofs.Spans.{both_true, run_past, every-run, past_head}
 use Rattle.labels.proofs.Classes.{digit_low, digit-high}
-use Rattle.sums.proofs.Sound.{sound, bad-got, cons-is, skipped, is_name, onto-got}
+use Rattle.sums.proofs.Sound.{sound, bad-got, cons-is, skipped, is-name, onto-got}
 use Rattle.lines.specs.Lines.{Kind, register, immediate, kinds_of, Operand, reg, sum, Operands, without, last, more, Line, blank, defines, instruction, operand_text, operands_text, arguments_text, line_text, operand_value, pushed, operands_values, word_for, Saying, empty, named, wrong, saying_of, line_saying}
 use Rattle.lines.specs.Reader.{is_teen, register_read, operand_read, nothing, with, operands_read, instruction_read, word_read, line_read}
 use Rattle.lines.proofs.Complete.{append-none, name-is, parts-of}
@@ -220,7 +220,7 @@ module _ (look : Form → List ℕ → Option ℤ) where
           let u : List ℕ = past is_part t in
           let i : ℕ = length (run_of is_space u) in
           let j : ℕ = length (run_of is_space (tail_of (skip u))) in (
-            defines g (run_of is_part t) (is_name (look R) 0 t l) i j,
+            defines g (run_of is_part t) (is-name (look R) 0 t l) i j,
             ap (spaces g ++◌) (sym (run_past is_part t) ∙ ap (run_of is_part t ++◌) (skipped u ∙ ap (spaces i ++◌) (cons-is (skip u) 58 p (λ z. omega arith) ∙ ap (58 ∷◌) (skipped (tail_of (skip u)) ∙ ap (spaces j ++◌) (is-nothing (skip (tail_of (skip u))) e) ∙ append-none (spaces j))))),
             h,
           )

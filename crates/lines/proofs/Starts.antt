@@ -14,9 +14,7 @@ use Rattle.lines.specs.Lines.{Kind, kinds_of, word_for, Saying, empty, named, wo
 use Rattle.lines.specs.Reader.{nothing, operands_read, instruction_read, word_read, line_read}
 use Rattle.lines.specs.Code.{word_or_wrong, word_or_bad, said_of, named_at, start_at, start_of}
 use Rattle.lines.specs.declared.Said.{Said}
-use Rattle.lines.specs.declared.Said.TheVariants as Said
 use Rattle.lines.specs.declared.Start.{Start}
-use Rattle.lines.specs.declared.Start.TheVariants as Start
 use Rattle.lines.proofs.Steps.{nothing-end, nothing-not}
 
 abbrev Look : Type 0

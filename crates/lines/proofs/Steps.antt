@@ -4,13 +4,11 @@ use mathlib.Core.Option.{Option}
 use Rattle.labels.specs.Bytes.{is_space, is_digit, head_of}
 use Rattle.labels.specs.Reading.{tail_of, skip, Passed}
 use Rattle.sums.specs.Reader.{Got, got, bad, onto, sum_read}
-use Rattle.sums.specs.declared.Read.TheVariants.{Bad}
 use Rattle.labels.proofs.Spans.{both_true, tail-drop}
 use Rattle.lines.specs.Lines.{Kind, register, immediate}
 use Rattle.lines.specs.Reader.{register_read, operand_read, nothing}
 use Rattle.lines.specs.Code.{is_two, comma_read, last_read, reg_seen}
 use Rattle.lines.specs.declared.operands.Reg.{Reg}
-use Rattle.lines.specs.declared.operands.Reg.TheVariants as Reg
 
 -- ---- a register
 module _ (s : List ℕ) (at : ℕ) where

@@ -1,5 +1,5 @@
 -- The operands of an instruction one by one, and its word. Assumes nothing.
-use Rattle.std.proofs.Common.{◌≡◌, ℕ, ◌+◌, ◌-◌, ◌%◌, ◌^◌, ◌<◌, ◌≤◌, Bool, true, false, cond, eqb, ltb, List, [], ◌∷◌, length, drop, ℤ, pos, sym, refl, ap, ◌∙◌, arith, w64, of_z, ltb-false, ltb-true, lt-ltb}
+use Rattle.std.proofs.Common.{◌≡◌, ℕ, ◌+◌, ◌%◌, ◌^◌, ◌<◌, ◌≤◌, Bool, true, false, cond, eqb, ltb, List, [], ◌∷◌, length, drop, ℤ, pos, sym, refl, ap, ◌∙◌, arith, w64, of_z, ltb-false, ltb-true, lt-ltb}
 use mathlib.Core.Option.{Option, none, some}
 use Rattle.opcode.specs.Opcodes.{opcode_number, form_of}
 use Rattle.opcode.specs.declared.Opcode.{Opcode}

@@ -10,11 +10,8 @@ use Rattle.sums.specs.Code.{look_in}
 use Rattle.lines.specs.Lines.{Kind, Saying, empty, named, word, wrong, base_of}
 use Rattle.lines.specs.Reader.{operand_read, nothing}
 use Rattle.lines.specs.declared.operands.Reg.{Reg}
-use Rattle.lines.specs.declared.operands.Reg.TheVariants as Reg
 use Rattle.lines.specs.declared.Said.{Said}
-use Rattle.lines.specs.declared.Said.TheVariants as Said
 use Rattle.lines.specs.declared.Start.{Start}
-use Rattle.lines.specs.declared.Start.TheVariants as Start
 
 abbrev pub is_two : ℕ → ℕ → Bool
 is_two a b = a == 49 && (nat_le 48 b && nat_le b 53)

@@ -1,6 +1,6 @@
 -- A line of the assembler's language: what can be written, as trees that hold every space; the text of a tree; the word of an
 -- instruction. "One instruction a line, operands in the order rd, rs1, rs2, immediate as far as present; commas between operands."
-use Rattle.std.specs.Prelude.{◌≡◌, ℕ, zero, suc, ◌+◌, true, List, [], ◌∷◌, ◌++◌, ℤ, pos, nat_lt}
+use Rattle.std.specs.Prelude.{◌≡◌, ℕ, zero, suc, true, List, [], ◌∷◌, ◌++◌, ℤ, pos, nat_lt}
 use Rattle.std.proofs.Math.Option.{Option, none, some}
 use Rattle.std.specs.Int.{w64}
 use Rattle.std.proofs.Common.{of_z}

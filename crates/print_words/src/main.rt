@@ -2,7 +2,10 @@
 // nothing is written there, and one line on standard error: which refusal, and the word if it is one of a word.
 #![tactic(auto)]
 
-ghost use Rattle.io.specs.Counts.{IsPrefixLen};
+ghost use Rattle.std.specs.Prelude.{◌≡◌, ◌≤◌, length, take};
+
+use std::io;
+use std::io::Write;
 
 // As many as memory has.
 const BYTES: usize = 65_536;
@@ -11,44 +14,37 @@ const BYTES: usize = 65_536;
 const TEXT: usize = 360_448;
 
 fn within(n: u64, buffer: &[u8]) -> usize
-    ensures { IsPrefixLen result buffer.now }
+    ensures within { result ≤ length buffer.now }
+    ensures count { result ≡ length (take result buffer.now) }
 {
     let most = buffer.len();
     if n < most as u64 { n as usize } else { most }
 }
 
-fn has_more() -> bool {
-    let mut more = [0u8; 1];
-    0 < io::read_full(0, &mut more)
-}
-
-fn tell_refusal(code: u64, word: u64) {
-    io::write_all(2, b"refused ");
-    io::print_decimal(2, code);
+fn tell_refusal(rt: &impl Eprint, code: u64, word: u64) -> io::Result<()> {
+    eprint!(rt; "refused {code}")?;
     if code != 9 {
-        io::write_all(2, b" word ");
-        io::print_decimal(2, word);
+        eprint!(rt; " word {word}")?;
     }
-    io::write_all(2, b"\n");
+    eprintln!(rt; "")
 }
 
-fn print(words: &[u8], text: &mut [u8]) {
+fn print(rt: &(impl Print + Eprint), words: &[u8], text: &mut [u8]) -> io::Result<()> {
     let told = printing::print(words, text);
     if told.code == 0 {
         let n = within(told.length, text);
-        io::write_all(1, &text[..n]);
-        return;
+        return io::writer(rt).write_all(&text[..n]);
     }
-    tell_refusal(told.code, told.particular);
+    tell_refusal(rt, told.code, told.particular)
 }
 
-fn main() {
+fn main(rt: HostRuntime) -> io::Result<()> {
     let mut words = [0u8; BYTES];
-    let n = io::read_full(0, &mut words);
-    if has_more() {
-        tell_refusal(9, 0);
-        return;
+    let mut reader = rt.stdin();
+    let n = input::fill(&mut reader, &mut words)?;
+    if input::has_more(&mut reader)? {
+        return tell_refusal(&rt, 9, 0);
     }
     let mut text = [0u8; TEXT];
-    print(&words[..n], &mut text);
+    print(&rt, &words[..n], &mut text)
 }

@@ -12,9 +12,7 @@ use Rattle.lines.specs.Code.{labels_in}
 use Rattle.programs.specs.Programs.{lines_of}
 use Rattle.programs.specs.Code.{step_by, line_step, on_step, check_from}
 use Rattle.programs.specs.declared.checking.Step.{Step}
-use Rattle.programs.specs.declared.checking.Step.TheVariants as Step
 use Rattle.programs.specs.declared.checking.Checked.{Checked}
-use Rattle.programs.specs.declared.checking.Checked.TheVariants as Checked
 
 pub step_is : (text table : List ℕ) (again : Bool) (t : List ℕ) (own : ℕ) (x : Saying) → line_read (labels_in text table own) t ≡ x → step_by again own x ≡ line_step text table again t own
 unfolding line_step

@@ -16,9 +16,7 @@ use Rattle.programs.specs.Programs.{Teller, Assembly, refused, made, assemble_of
 use Rattle.programs.specs.Promise.{leaves, left_cleared, bytes_of_words, outcome, left_of, Assembled}
 use Rattle.programs.specs.Code.{tellers_of, Gives, NotedAll, check_from, words_from}
 use Rattle.programs.specs.declared.noting.Labels.{Labels}
-use Rattle.programs.specs.declared.noting.Labels.TheVariants as Labels
 use Rattle.programs.specs.declared.checking.Checked.{Checked}
-use Rattle.programs.specs.declared.checking.Checked.TheVariants as Checked
 use Rattle.programs.proofs.Top.{met}
 use Rattle.programs.proofs.Passes.{count, check-right, words_right}
 

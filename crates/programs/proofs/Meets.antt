@@ -14,7 +14,6 @@ use Rattle.labels.specs.Bytes.{key_of}
 use Rattle.labels.specs.Reading.{name_at}
 use Rattle.labels.specs.Table.{slots_of, search_in, noted_by, with_label}
 use Rattle.labels.specs.declared.table.Slot.{Slot}
-use Rattle.labels.specs.declared.table.Slot.TheVariants as Slot
 use Rattle.labels.specs.declared.table.Noted.TheVariants as N
 use Rattle.opcode.specs.Opcodes.{opcode_in, form_of}
 use Rattle.opcode.specs.declared.Form.{Form}
@@ -26,7 +25,6 @@ use Rattle.lines.specs.Lines.{saying_of, named, wrong, kinds_of, word_for}
 use Rattle.lines.specs.Reader.{line_read, instruction_read, operands_read}
 use Rattle.lines.specs.Code.{is_end, start_of}
 use Rattle.lines.specs.declared.Start.{Start}
-use Rattle.lines.specs.declared.Start.TheVariants as Start
 use Rattle.lines.proofs.Starts.{Started, began}
 use Rattle.lines.proofs.Ends.{plain-start}
 use Rattle.programs.specs.Programs.{no_labels, labels_from}
@@ -34,7 +32,6 @@ use Rattle.programs.specs.Code.{tellers_of, Spans, second_by, one_more, After, a
 use Rattle.programs.specs.declared.spans.Span.{Span}
 use Rattle.programs.specs.declared.noting.Tally.{Tally}
 use Rattle.programs.specs.declared.noting.Met.{Met}
-use Rattle.programs.specs.declared.noting.Met.TheVariants as Met
 use Rattle.programs.proofs.Notes.{text-letter, text-name, Counts, Noting, noting-blank, noting-other, noting-short, noting-full, noting-again, noting-new}
 
 -- ---- what the code finds

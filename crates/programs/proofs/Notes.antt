@@ -13,7 +13,6 @@ use Rattle.labels.specs.Bytes.{is_letter, is_part, head_of, eq_bytes, key_of}
 use Rattle.labels.specs.Reading.{run_of, past, skip, name_at}
 use Rattle.labels.specs.Table.{slots_of, search_in, with_label}
 use Rattle.labels.specs.declared.table.Slot.{Slot}
-use Rattle.labels.specs.declared.table.Slot.TheVariants as Slot
 use Rattle.labels.proofs.Spans.{run_past, every-run, run-append, past_head}
 use Rattle.labels.proofs.Steps.{class-inside}
 use Rattle.labels.proofs.Noting.{bytes-equal}

@@ -20,14 +20,11 @@ use Rattle.lines.specs.Lines.{Saying, empty, named, word, wrong, base_of}
 use Rattle.lines.specs.Reader.{line_read, instruction_read}
 use Rattle.lines.specs.Code.{start_of, labels_in}
 use Rattle.lines.specs.declared.Start.{Start}
-use Rattle.lines.specs.declared.Start.TheVariants as Start
 use Rattle.lines.proofs.Starts.{began}
 use Rattle.programs.specs.Programs.{Teller, Label, label_at, on_saying, no_labels, labels_from, index_of, look_at, Assembly, refused, made, and_word, unless, assemble_from, assemble_of, lines_of}
 use Rattle.programs.specs.Code.{reader, tellers_of, unless_seen, second_from, Gives, step_by, line_step, on_step, check_from, words_from}
 use Rattle.programs.specs.declared.checking.Step.{Step}
-use Rattle.programs.specs.declared.checking.Step.TheVariants as Step
 use Rattle.programs.specs.declared.checking.Checked.{Checked}
-use Rattle.programs.specs.declared.checking.Checked.TheVariants as Checked
 use Rattle.programs.proofs.Notes.{Counts, by-counts, second-by}
 use Rattle.programs.proofs.Meets.{instruction-counts}
 

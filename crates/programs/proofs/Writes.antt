@@ -1,12 +1,9 @@
 -- The pass that writes the words, line by line. Assumes nothing.
-use mathlib.Core.Path.{◌≡◌, sym, ap, ◌∙◌}
+use mathlib.Core.Path.{◌≡◌, refl, sym, ap, ◌∙◌}
 use mathlib.Core.List.{List, [], ◌∷◌, ◌++◌}
 use Prim.Native.Nat.{ℕ, suc, ◌+◌, ◌≤◌}
 use native.Mathlib.Nat.{add-zero}
 use native.Mathlib.Omega.{arith}
-use mathlib.Core.Logic.{inl, inr}
-use denote.Enum.Declared.{tag_of}
-use types.Run.{OneOf}
 use lib.ListN.{length, set, drop, drop_of_length-le}
 use lib.Seq.{sets}
 use Rattle.memory.specs.Bytes.{bytes}
@@ -14,8 +11,6 @@ use Rattle.lines.specs.Lines.{Saying, empty, word, wrong}
 use Rattle.lines.specs.Reader.{line_read}
 use Rattle.lines.specs.Code.{labels_in, said_of}
 use Rattle.lines.specs.declared.Said.{Said}
-use Rattle.lines.specs.contracts.Said.{the_type}
-use Rattle.lines.specs.declared.Said.TheVariants as Said
 use Rattle.programs.specs.Programs.{lines_of, on_saying}
 use Rattle.programs.specs.Promise.{bytes_of_words}
 use Rattle.programs.specs.Code.{words_from}
@@ -45,11 +40,9 @@ module _ (text table : List ℕ) (own : ℕ) where
     pub words-word : (w : ℕ) → line_read (labels_in text table own) t ≡ word w → words_from text table ls own ≡ w ∷ words_from text table ts (own + 1)
     words-word w r = words_are (word w) r
 
-    -- whatever is said but a word: the other three variants
-    pub words-none : (s : List ℕ) (r : Said) → line_read (labels_in text table own) t ≡ said_of s r → OneOf (0 ∷ (1 ∷ (3 ∷ []))) (tag_of the_type r) → words_from text table ls own ≡ words_from text table ts own
+    -- whatever is said but a word
+    pub words-none : (s : List ℕ) (r : Said) → line_read (labels_in text table own) t ≡ said_of s r → ((w : ℕ) → r ≡ Said.Word w → ⊥) → words_from text table ls own ≡ words_from text table ts own
     words-none s Said.Blank r n = words_are empty r
     words-none s Said.Name r n = words_are (said_of s Said.Name) r
-    words-none s (Said.Word w) r (inl n) = absurd (omega arith)
-    words-none s (Said.Word w) r (inr (inl n)) = absurd (omega arith)
-    words-none s (Said.Word w) r (inr (inr n)) = absurd (omega arith)
+    words-none s (Said.Word w) r n = absurd (n w refl)
     words-none s Said.Bad r n = words_are wrong r

@@ -5,25 +5,19 @@ use Rattle.labels.specs.Bytes.{key_of}
 use Rattle.labels.specs.Reading.{name_at}
 use Rattle.labels.specs.Table.{slots_of, search_in, index_in, with_label}
 use Rattle.labels.specs.declared.table.Slot.{Slot}
-use Rattle.labels.specs.declared.table.Slot.TheVariants as Slot
 use Rattle.lines.specs.Lines.{Saying}
 use Rattle.lines.specs.Reader.{line_read}
 use Rattle.lines.specs.Code.{is_end, start_of, labels_in}
 use Rattle.lines.specs.declared.Start.{Start}
-use Rattle.lines.specs.declared.Start.TheVariants as Start
 use Rattle.programs.specs.Programs.{lines_of, Teller, Label, label_at, on_saying, no_labels, labels_from, index_of}
 use Rattle.told.specs.declared.Told.{Told}
 use Rattle.programs.specs.Promise.{left_cleared, left_of}
 use Rattle.programs.specs.declared.spans.Span.{Span}
 use Rattle.programs.specs.declared.checking.Step.{Step}
-use Rattle.programs.specs.declared.checking.Step.TheVariants as Step
 use Rattle.programs.specs.declared.checking.Checked.{Checked}
-use Rattle.programs.specs.declared.checking.Checked.TheVariants as Checked
 use Rattle.programs.specs.declared.noting.Tally.{Tally}
 use Rattle.programs.specs.declared.noting.Met.{Met}
-use Rattle.programs.specs.declared.noting.Met.TheVariants as Met
 use Rattle.programs.specs.declared.noting.Labels.{Labels}
-use Rattle.programs.specs.declared.noting.Labels.TheVariants as Labels
 
 abbrev pub reader : List ℕ → Teller
 reader t = λ look. line_read look t

@@ -2,12 +2,12 @@
 #![tactic(auto)]
 
 use refusal::{Refusal, Stop};
+use std::io;
 
-fn main() {
+fn main(rt: HostRuntime) -> io::Result<()> {
     let mut m = [0u8; 65536];
-    if console::read_memory(&mut m) {
-        console::print_stop(Stop::Refused(Refusal::Malformed), 0, 0);
-        return;
+    if console::read_memory(&mut rt.stdin(), &mut m)? {
+        return console::print_stop(&rt, Stop::Refused(Refusal::Malformed), 0, 0);
     }
     let mut values = [0u64; 0];
     let mut bounds = [0u8; 0];
@@ -24,6 +24,6 @@ fn main() {
     );
     let stop = r.stop;
     let after = r.state;
-    console::print_stop(stop, r.steps, after.pc);
-    console::print_registers(after);
+    console::print_stop(&rt, stop, r.steps, after.pc)?;
+    console::print_registers(&rt, after)
 }

@@ -9,7 +9,11 @@ mod tally; // tally.rt: what was met, counted and printed
 
 use call::NUMBERS;
 use line::Line;
+use std::io;
+use std::io::Read;
 use tally::Tally;
+
+const CHUNK: usize = 65_536;
 
 #[derive(Clone, Copy)]
 struct Progress {
@@ -18,49 +22,68 @@ struct Progress {
     is_ended: bool,
 }
 
-fn replay_line(begun: Line, numbers: &mut [u64; NUMBERS], t: Tally) -> Tally {
+fn replay_line(
+    rt: &impl Print,
+    begun: Line,
+    numbers: &mut [u64; NUMBERS],
+    t: Tally,
+) -> io::Result<Tally> {
     if begun.is_title {
-        return t;
+        return Ok(t);
     }
     let line = line::with_number(begun, numbers);
     if line.is_malformed {
-        return tally::malformed(t, line.number);
+        return tally::malformed(rt, t, line.number);
     }
     if !call::is_well_formed(numbers, line.count) {
-        return tally::malformed(t, line.number);
+        return tally::malformed(rt, t, line.number);
     }
-    tally::compared(t, line.number, replay::replay(numbers))
+    tally::compared(rt, t, line.number, replay::replay(numbers))
 }
 
-fn replay_chunk(chunk: &[u8], r: Progress, numbers: &mut [u64; NUMBERS]) -> Progress {
+fn replay_chunk(
+    rt: &impl Print,
+    chunk: &[u8],
+    r: Progress,
+    numbers: &mut [u64; NUMBERS],
+) -> io::Result<Progress> {
     let mut line = r.line;
     let mut t = r.tally;
     let mut i: usize = 0;
     while i < chunk.len() {
         let b = chunk[i];
         if b == b'\n' {
-            t = replay_line(line, numbers, t);
+            t = replay_line(rt, line, numbers, t)?;
             line = line::empty(tally::one_more(line.number));
         } else {
             line = line::with_byte(line, b, numbers);
         }
         i += 1;
     }
-    Progress {
+    Ok(Progress {
         line,
         tally: t,
         is_ended: chunk.len() == 0,
-    }
+    })
 }
 
-fn read_on(r: Progress, numbers: &mut [u64; NUMBERS]) -> Progress {
-    let mut chunk = io::large_buffer();
-    let n = io::read_full(0, &mut chunk);
-    replay_chunk(&chunk[..n], r, numbers)
+fn read_on<R: Read>(
+    rt: &impl Print,
+    reader: &mut R,
+    r: Progress,
+    numbers: &mut [u64; NUMBERS],
+) -> io::Result<Progress> {
+    let mut chunk = [0u8; CHUNK];
+    let n = input::fill(reader, &mut chunk)?;
+    replay_chunk(rt, &chunk[..n], r, numbers)
 }
 
 // Nothing says that the input ends, so the turns are counted, from a number that no run uses up.
-fn read_all(numbers: &mut [u64; NUMBERS]) -> Progress {
+fn read_all<R: Read>(
+    rt: &impl Print,
+    reader: &mut R,
+    numbers: &mut [u64; NUMBERS],
+) -> io::Result<Progress> {
     let mut r = Progress {
         line: line::empty(1),
         tally: tally::nothing(),
@@ -68,23 +91,23 @@ fn read_all(numbers: &mut [u64; NUMBERS]) -> Progress {
     };
     let mut turns = u64::MAX;
     while 0 < turns {
-        r = read_on(r, numbers);
+        r = read_on(rt, reader, r, numbers)?;
         if r.is_ended {
-            return r;
+            return Ok(r);
         }
         turns -= 1;
     }
-    r
+    Ok(r)
 }
 
-fn main() {
+fn main(rt: HostRuntime) -> io::Result<()> {
     let mut numbers = [0u64; NUMBERS];
-    let r = read_all(&mut numbers);
+    let r = read_all(&rt, &mut rt.stdin(), &mut numbers)?;
     let last = r.line;
     let t = r.tally;
     if line::is_empty(last) {
-        tally::print(t);
-    } else {
-        tally::print(replay_line(last, &mut numbers, t));
+        return tally::print(&rt, t);
     }
+    let all = replay_line(&rt, last, &mut numbers, t)?;
+    tally::print(&rt, all)
 }

@@ -1,5 +1,5 @@
 // A call made in buffers, and all that it leaves compared: what was lent to it, and what was not.
-ghost use Rattle.io.specs.Counts.{IsPrefixLen};
+ghost use Rattle.std.specs.Prelude.{◌≡◌, ◌≤◌, length, take};
 
 use crate::call::{
     ANSWER_BUFFER, Call, LIST_BUFFER, MEMORY_BUFFER, NUMBERS, Places, STATE_BUFFER, call_of,
@@ -80,14 +80,16 @@ fn lay_after(
 
 // How much of a buffer is lent: a well-formed line asks for no more than there is.
 fn within(n: u64, buffer: &[u8]) -> usize
-    ensures { IsPrefixLen result buffer.now }
+    ensures within { result ≤ length buffer.now }
+    ensures count { result ≡ length (take result buffer.now) }
 {
     let most = buffer.len();
     if n < most as u64 { n as usize } else { most }
 }
 
 fn room_within(n: u64, list: &[u64]) -> usize
-    ensures { IsPrefixLen result list.now }
+    ensures within { result ≤ length list.now }
+    ensures count { result ≡ length (take result list.now) }
 {
     let most = list.len();
     if n < most as u64 { n as usize } else { most }
@@ -239,9 +241,9 @@ pub fn replay(line: &[u64; NUMBERS]) -> Compared {
     Compared {
         is_listed: call.is_listed,
         code_differs: called.code != number_at(line, places.answer),
-        state_differs: !check::same(&state, &state_after),
-        memory_differs: !check::same(&memory, &memory_after),
-        answer_differs: !check::same(&answer, &answer_after),
+        state_differs: state != state_after,
+        memory_differs: memory != memory_after,
+        answer_differs: answer != answer_after,
         lists_differ: called.lists_differ,
     }
 }

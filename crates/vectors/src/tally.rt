@@ -1,5 +1,6 @@
 // What was met, counted and printed.
 use crate::replay::Compared;
+use std::io;
 
 // So many lines that differ are named, and so many malformed ones.
 const NAMED: u64 = 20;
@@ -29,69 +30,59 @@ fn more_if(n: u64, counts: bool) -> u64 {
     if counts { one_more(n) } else { n }
 }
 
-fn text(s: &[u8]) {
-    io::write_all(1, s);
-}
-
-fn text_if(shows: bool, s: &[u8]) {
-    if shows {
-        text(s);
-    }
-}
-
-fn print_number(before: &[u8], n: u64) {
-    text(before);
-    io::print_decimal(1, n);
-}
-
-pub fn malformed(t: Tally, line: u64) -> Tally {
+pub fn malformed(rt: &impl Print, t: Tally, line: u64) -> io::Result<Tally> {
     if t.malformed < NAMED {
-        print_number(b"line ", line);
-        text(b" is malformed\n");
+        println!(rt; "line {line} is malformed")?;
     }
     let mut after = t;
     after.malformed = one_more(t.malformed);
-    after
+    Ok(after)
 }
 
 fn differs(c: Compared) -> bool {
     c.code_differs || c.state_differs || c.memory_differs || c.answer_differs || c.lists_differ
 }
 
-fn print_difference(line: u64, c: Compared) {
-    print_number(b"line ", line);
-    text(b" differs:");
-    text_if(c.code_differs, b" code");
-    text_if(c.state_differs, b" state");
-    text_if(c.memory_differs, b" memory");
-    text_if(c.answer_differs, b" answer");
-    text_if(c.lists_differ, b" lists");
-    text(b"\n");
+fn print_if(rt: &impl Print, shows: bool, what: &str) -> io::Result<()> {
+    if shows {
+        print!(rt; "{what}")?;
+    }
+    Ok(())
 }
 
-pub fn compared(t: Tally, line: u64, c: Compared) -> Tally {
+fn print_difference(rt: &impl Print, line: u64, c: Compared) -> io::Result<()> {
+    print!(rt; "line {line} differs:")?;
+    print_if(rt, c.code_differs, " code")?;
+    print_if(rt, c.state_differs, " state")?;
+    print_if(rt, c.memory_differs, " memory")?;
+    print_if(rt, c.answer_differs, " answer")?;
+    print_if(rt, c.lists_differ, " lists")?;
+    println!(rt; "")
+}
+
+pub fn compared(rt: &impl Print, t: Tally, line: u64, c: Compared) -> io::Result<Tally> {
     let different = differs(c);
     if different && t.differing < NAMED {
-        print_difference(line, c);
+        print_difference(rt, line, c)?;
     }
-    Tally {
+    Ok(Tally {
         calls: one_more(t.calls),
         listed: more_if(t.listed, c.is_listed),
         differing: more_if(t.differing, different),
         malformed: t.malformed,
-    }
+    })
 }
 
 // The last line: a list with no call in it says so.
-pub fn print(t: Tally) {
+pub fn print(rt: &impl Print, t: Tally) -> io::Result<()> {
     if t.calls == 0 {
-        text(b"vectors: nothing was compared");
+        print!(rt; "vectors: nothing was compared")?;
     } else {
-        print_number(b"vectors: ", t.calls);
-        print_number(b" calls, ", t.listed);
-        print_number(b" with lists: ", t.differing);
-        text(b" differ");
+        let calls = t.calls;
+        let listed = t.listed;
+        let differing = t.differing;
+        print!(rt; "vectors: {calls} calls, {listed} with lists: {differing} differ")?;
     }
-    print_number(b", ", t.malformed);
-    text(b" lines malformed\n");
+    let malformed = t.malformed;
+    println!(rt; ", {malformed} lines malformed")
 }

@@ -1,0 +1,36 @@
+// What the programs read by: a buffer filled from a reader, and whether there is more. Of a reader whose bytes are known the
+// promises say which of them came; of standard input nothing can be known.
+#![tactic(auto)]
+
+ghost use Rattle.std.specs.Prelude.{◌≡◌, ◌<◌, length, take, nat_lt, IfOk, IfSome};
+ghost use Rattle.std.specs.Io.{ReadsAtMost};
+ghost use Rattle.std.specs.Io.KnownBytes.{Consumes, IsAtEnd};
+
+use std::io;
+use std::io::Read;
+
+// Fills the front of a buffer with what comes, and answers how many bytes came: as many as there is room for, or all.
+pub fn fill<R: Read>(reader: &mut R, buffer: &mut [u8]) -> io::Result<usize>
+    ensures bound { ReadsAtMost result buffer.new }
+    ensures bytes { IfOk result (λ n. Consumes (R.remaining reader.old) (R.remaining reader.new) (take n buffer.new)) }
+    ensures end { IfOk result (λ n. n < length buffer.new → IsAtEnd (R.remaining reader.new)) }
+{
+    let mut filled = 0;
+    while filled < buffer.len() {
+        let n = reader.read(&mut buffer[filled..])?;
+        if n == 0 {
+            break;
+        }
+        filled += n;
+    }
+    Ok(filled)
+}
+
+// Whether a byte comes; it is then read.
+pub fn has_more<R: Read>(reader: &mut R) -> io::Result<bool>
+    ensures { IfOk result (λ more. IfSome (R.remaining reader.old) (λ xs. more ≡ nat_lt 0 (length xs))) }
+{
+    let mut more = [0u8; 1];
+    let n = fill(reader, &mut more)?;
+    Ok(0 < n)
+}
