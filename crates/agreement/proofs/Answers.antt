@@ -1,6 +1,6 @@
 -- A run's steps and fuel carried to the code, through the contracts of `run_plain` and `run_deferred`.
-use Prim.Native.Nat.{ℕ, ◌+◌}
-use mathlib.Core.Path.{◌≡◌}
+use Prim.Native.Nat.{ℕ, ◌+◌, ◌≤◌}
+use mathlib.Core.Path.{◌≡◌, subst⁻¹}
 use contract.Lifetimes.{Lfts}
 use denote.Triple.Entry.{Args}
 use Rattle.execute.specs.World.{World}
@@ -25,7 +25,9 @@ leaves_run Plain κs a x e = e
 leaves_run Deferred κs a x e = e
 
 pub answers-within : AnswersWithinFuel
-answers-within k κs a x e = rw (leaves_run k κs a x e) (runs-within document_rules k (fuel_given κs a) (world_given κs a) (lists_given κs a))
+answers-within k κs a x e =
+    subst⁻¹ (λ (v : Answer). v.steps ≤ fuel_given κs a) (leaves_run k κs a x e)
+    (runs-within document_rules k (fuel_given κs a) (world_given κs a) (lists_given κs a))
 
 pub answers-are-steps : AnswersAreSteps
 answers-are-steps k κs a x e = rw (leaves_run k κs a x e) (runs-are-steps document_rules document-capped k (fuel_given κs a) (world_given κs a) (lists_given κs a))

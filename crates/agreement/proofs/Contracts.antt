@@ -1,7 +1,7 @@
 -- Agreement carried to the code, through the contracts of `run_plain`, `run_deferred` and `zkir_run`.
 use Prim.Native.Nat.{ℕ}
 use mathlib.Core.Path.{◌≡◌, sym, ap, ap₂, ◌∙◌}
-use lib.ListN.{length, length-map}
+use lib.ListN.{length}
 use native.Mathlib.Omega.{arith}
 use contract.Lifetimes.{Lfts}
 use denote.Triple.Entry.{Args}
@@ -11,7 +11,8 @@ use Rattle.execute.specs.declared.Mode.TheVariants.{Plain, Deferred}
 use Rattle.pending.specs.Pending.{Lists, no_lists}
 use Rattle.execute.specs.Rules.{document_rules}
 use Rattle.run.specs.Run.{run}
-use Rattle.run.proofs.run_deferred
+use Rattle.run.specs.contracts.run_deferred
+use Rattle.run.proofs.run_deferred as run_deferred_told
 use Rattle.host.specs.Call.{Called, call_of}
 use Rattle.agreement.specs.Reading.{read_answer, read_call, Sized}
 use Rattle.agreement.specs.Contracts.{world_given, fuel_given, CallGiven, call_given}
@@ -20,9 +21,9 @@ use Rattle.agreement.proofs.Runs.{runs-agree}
 use Rattle.agreement.proofs.Calls.{calls-agree}
 
 -- the length of the state's fourth field, by its type
-sized : (κs : Lfts 4) (a : Args run_deferred.signature κs) → GoodsP κs run_deferred.Kinds.ps a → Sized (world_given κs a).registers
+sized : (κs : Lfts 4) (a : Args run_deferred.signature κs) → GoodsP κs run_deferred_told.Kinds.ps a → Sized (world_given κs a).registers
 sized κs a g =
-    let long : length a.0.accumulated ≡ 16 = sym (length-map a.0.accumulated _) ∙ g.0.1.1.1.1.1.0.1.0.1 in
+    let long : length a.0.accumulated ≡ 16 = g.0.1.1.1.1.1.0.1.0.1 in
     omega arith
 
 pub answers_agree : AnswersAgree

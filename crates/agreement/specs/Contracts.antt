@@ -13,7 +13,8 @@ use Rattle.run.specs.Run.{Answer, ran}
 use Rattle.host.specs.Call.{Called, called}
 use Rattle.given.specs.contracts.execute as given·execute
 use Rattle.step.specs.contracts.step as step·step
-use Rattle.run.proofs.run_plain
+use Rattle.run.specs.contracts.run_plain
+use Rattle.run.proofs.run_plain as run_plain_told
 use Rattle.run.proofs.run_deferred
 use Rattle.host.specs.contracts.zkir_run
 
@@ -48,7 +49,7 @@ module _ (κs : Lfts 4) (a : Args run_plain.signature κs) where
 
 -- what the contract of each mode's run tells
 unfoldable pub told_by : Mode → Telling run_plain.ended
-told_by Plain = run_plain.Reads.Learnt
+told_by Plain = run_plain_told.Reads.Learnt
 told_by Deferred = run_deferred.Reads.Learnt
 
 -- a single step: choices, state, memory, values, bounds, pcs, count

@@ -7,7 +7,8 @@ use Rattle.refusal.specs.declared.Refusal.{Refusal}
 use Rattle.state.specs.Held.{Held, Limbs, low_of, high_of, normal, settled}
 use Rattle.state.specs.Registers.{Registers, holds, normalise}
 use Rattle.state.specs.Formed.{well_formed, all_whole, registers_of}
-use Rattle.normalize.proofs.normalize_register
+use Rattle.normalize.specs.contracts.normalize_register
+use Rattle.normalize.proofs.normalize_register as normalize_register_told
 use Rattle.effect.specs.Notes.{Notes}
 use Rattle.instruction.specs.declared.Instruction.{Instruction}
 use Rattle.deferred.specs.Limbs.{sum_of, sum_fits, sum_into, subtracted}
@@ -21,15 +22,20 @@ use Rattle.pending.specs.declared.Room.{Room}
 use Rattle.pending.specs.declared.Room.TheVariants.{Unlent}
 use Rattle.execute.specs.Rules.{Rules, document_rules}
 use Rattle.given.specs.Given.{execute_one}
-use Rattle.given.proofs.execute as given·execute
+use Rattle.given.specs.contracts.execute as given·execute
+use Rattle.given.proofs.execute as given_execute_told
 use Rattle.step.specs.Step.{step}
-use Rattle.step.proofs.step as step·step
+use Rattle.step.specs.contracts.step as step·step
+use Rattle.step.proofs.step as step_step_told
 use Rattle.run.specs.Run.{run}
-use Rattle.run.proofs.run_plain
-use Rattle.run.proofs.run_deferred
+use Rattle.run.specs.contracts.run_plain
+use Rattle.run.proofs.run_plain as run_plain_told
+use Rattle.run.specs.contracts.run_deferred
+use Rattle.run.proofs.run_deferred as run_deferred_told
 use Rattle.layout.specs.Layout.{state_in}
 use Rattle.host.specs.Call.{call_taken, call_of}
-use Rattle.host.proofs.zkir_run
+use Rattle.host.specs.contracts.zkir_run
+use Rattle.host.proofs.zkir_run as zkir_run_told
 use Rattle.checked.specs.contracts.step as checked·step
 use Rattle.lent.specs.contracts.step_in_place
 use Rattle.lent.specs.contracts.exported.zkir_step
@@ -63,11 +69,11 @@ InstructionsAgree =
 -- fuel. `GoodsP` is what the kit knows of any arguments that are handed over: here, that a state has its sixteen marks.
 abbrev pub AnswersAgree : Type 0
 AnswersAgree =
-    (κs ρs : Lfts 4) (a : Args run_deferred.signature κs) (b : Args run_plain.signature ρs) → GoodsP κs run_deferred.Kinds.ps a
+    (κs ρs : Lfts 4) (a : Args run_deferred.signature κs) (b : Args run_plain.signature ρs) → GoodsP κs run_deferred_told.Kinds.ps a
     → world_given κs a ≡ world_given ρs b → fuel_given κs a ≡ fuel_given ρs b → lists_given κs a ≡ no_lists → lists_given ρs b ≡ no_lists
     → all_whole (world_given κs a).registers.accumulated ≡ true
     → (d : Leaves run_deferred.ended κs a) (p : Leaves run_plain.ended ρs b)
-    → Allows run_deferred.ended run_deferred.Reads.Learnt κs a d → Allows run_plain.ended run_plain.Reads.Learnt ρs b p
+    → Allows run_deferred.ended run_deferred_told.Reads.Learnt κs a d → Allows run_plain.ended run_plain_told.Reads.Learnt ρs b p
     → read_answer (ran_to κs a d) ≡ read_answer (ran_to ρs b p)
 
 -- The host's call in its two modes, on any bytes whose state has no accumulated register, taken or refused: the same result, memory and
@@ -88,7 +94,7 @@ HostCallsAgree =
     (κs ρs : Lfts 3) (a : Args zkir_run.signature κs) (b : Args zkir_run.signature ρs) → call_given κs a ≡ call_given ρs b
     → mode_given κs a ≡ 1 → mode_given ρs b ≡ 0 → all_whole (state_in (call_given κs a).state).accumulated ≡ true
     → (d : Leaves zkir_run.ended κs a) (p : Leaves zkir_run.ended ρs b)
-    → Allows zkir_run.ended zkir_run.Reads.Learnt κs a d → Allows zkir_run.ended zkir_run.Reads.Learnt ρs b p
+    → Allows zkir_run.ended zkir_run_told.Reads.Learnt κs a d → Allows zkir_run.ended zkir_run_told.Reads.Learnt ρs b p
     → read_call (called_to κs a d) ≡ read_call (called_to ρs b p)
 
 -- After every instruction from a well-formed state the state is well-formed, with a list or without.
@@ -134,7 +140,7 @@ DifferencesAreHeld =
 -- Of the code: the state that a call of `step`, and of `run_plain` or `run_deferred`, leaves, as far as their own contracts allow it.
 abbrev pub StepCallsKeepLimbs : Type 0
 StepCallsKeepLimbs =
-    (κs : Lfts 4) (a : Args step·step.signature κs) (x : Leaves step·step.ended κs a) → Allows step·step.ended step·step.Reads.Learnt κs a x
+    (κs : Lfts 4) (a : Args step·step.signature κs) (x : Leaves step·step.ended κs a) → Allows step·step.ended step_step_told.Reads.Learnt κs a x
     → well_formed (world_stepped κs a).registers ≡ true
     → let after = registers_of x.0.state in (well_formed after ≡ true) × SmallLimbs after
 
@@ -170,12 +176,12 @@ RefusedGivenUndo = (k : Mode) (N : Notes) (i : Instruction) (w : World) → Undo
 -- Of the code: whatever a call leaves, as far as its own contract allows it, where the answer says that it was refused.
 abbrev pub StepCallsRestore : Type 0
 StepCallsRestore =
-    (κs : Lfts 4) (a : Args step·step.signature κs) (x : Leaves step·step.ended κs a) → Allows step·step.ended step·step.Reads.Learnt κs a x
+    (κs : Lfts 4) (a : Args step·step.signature κs) (x : Leaves step·step.ended κs a) → Allows step·step.ended step_step_told.Reads.Learnt κs a x
     → Restores (stepped_to κs a x) (world_stepped κs a) (lists_stepped κs a)
 
 abbrev pub GivenCallsUndo : Type 0
 GivenCallsUndo =
-    (κs : Lfts 1) (a : Args given·execute.signature κs) (x : Leaves given·execute.ended κs a) → Allows given·execute.ended given·execute.Reads.Learnt κs a x
+    (κs : Lfts 1) (a : Args given·execute.signature κs) (x : Leaves given·execute.ended κs a) → Allows given·execute.ended given_execute_told.Reads.Learnt κs a x
     → Undoes (executed_to κs a x) (world_executed κs a)
 
 -- And of the steps over a list of records, which are proved by hand: state, memory, list and count are as they were.
@@ -209,7 +215,7 @@ abbrev pub ResultsAreExact : Type 0
 ResultsAreExact =
     (κs : Lfts 0) (a : Args normalize_register.signature κs) (low high : ℕ) → well_formed (registers_of a.0) ≡ true → a.1.0 < 16
     → holds (registers_of a.0) a.1.0 ≡ Limbs low high → (d : Leaves normalize_register.ended κs a)
-    → Allows normalize_register.ended normalize_register.Reads.Learnt κs a d → NormalisedBy a.0 a.1.0 low high d.0
+    → Allows normalize_register.ended normalize_register_told.Reads.Learnt κs a d → NormalisedBy a.0 a.1.0 low high d.0
 
 -- "never more than the fuel": of every run, refused ones too.
 abbrev pub RunsWithinFuel : Type 0

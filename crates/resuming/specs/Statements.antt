@@ -9,9 +9,12 @@ use Rattle.host.specs.Call.{call_taken, call_of}
 use Rattle.told.specs.Told.{done_told}
 use Rattle.told.specs.declared.Told.{Told}
 use Rattle.checkpoint.specs.Calls.{memory_fits, wrote, writable, writing_of, ReadLeaves}
-use Rattle.host.proofs.zkir_run
-use Rattle.checkpoint.proofs.zkir_checkpoint_write
-use Rattle.checkpoint.proofs.zkir_checkpoint_read
+use Rattle.host.specs.contracts.zkir_run
+use Rattle.host.proofs.zkir_run as zkir_run_told
+use Rattle.checkpoint.specs.contracts.zkir_checkpoint_write
+use Rattle.checkpoint.proofs.zkir_checkpoint_write as zkir_checkpoint_write_told
+use Rattle.checkpoint.specs.contracts.zkir_checkpoint_read
+use Rattle.checkpoint.proofs.zkir_checkpoint_read as zkir_checkpoint_read_told
 use Rattle.agreement.specs.Reading.{read_call}
 use Rattle.agreement.specs.Contracts.{Leaves, Allows, call_given, mode_given, called_to}
 use Rattle.resuming.specs.Resuming.{AreBytes, called_on}
@@ -49,10 +52,10 @@ HostCallsResume =
     → (x : Leaves zkir_run.ended κs whole) (a : Leaves zkir_run.ended ρs first)
     → (w : Leaves zkir_checkpoint_write.ended σs writing) (r : Leaves zkir_checkpoint_read.ended τs reading) (b : Leaves zkir_run.ended υs rest)
     → AreBytes (machine_given κs whole).state → AreBytes (machine_given κs whole).memory → (call_given κs whole).fuel < 2 ^ 64
-    → Allows zkir_run.ended zkir_run.Reads.Learnt κs whole x → Allows zkir_run.ended zkir_run.Reads.Learnt ρs first a
-    → Allows zkir_checkpoint_write.ended zkir_checkpoint_write.Reads.Learnt σs writing w
-    → Allows zkir_checkpoint_read.ended zkir_checkpoint_read.Reads.Learnt τs reading r
-    → Allows zkir_run.ended zkir_run.Reads.Learnt υs rest b
+    → Allows zkir_run.ended zkir_run_told.Reads.Learnt κs whole x → Allows zkir_run.ended zkir_run_told.Reads.Learnt ρs first a
+    → Allows zkir_checkpoint_write.ended zkir_checkpoint_write_told.Reads.Learnt σs writing w
+    → Allows zkir_checkpoint_read.ended zkir_checkpoint_read_told.Reads.Learnt τs reading r
+    → Allows zkir_run.ended zkir_run_told.Reads.Learnt υs rest b
     → machine_given κs whole ≡ machine_given ρs first → (call_given κs whole).answer ≡ (call_given ρs first).answer
     → (call_given ρs first).fuel + (call_given υs rest).fuel ≡ (call_given κs whole).fuel
     → mode_given ρs first ≡ mode_given κs whole → mode_given υs rest ≡ mode_given κs whole
