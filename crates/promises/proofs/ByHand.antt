@@ -4,9 +4,9 @@ use Prim.Native.Nat.{ℕ}
 use mathlib.Core.Path.{◌≡◌, refl, sym, ap, ap₂, ◌∙◌}
 use mathlib.Core.List.{List}
 use lib.ListN.{set}
-use Rattle.checks.proofs as checks
-use Rattle.checked.proofs as checked
-use Rattle.lent.proofs as lent
+use Rattle.checks.specs.contracts as checks
+use Rattle.checked.specs.contracts as checked
+use Rattle.lent.specs.contracts as lent
 use Rattle.execute.specs.World.{world_of}
 use Rattle.execute.specs.Rules.{rules_of}
 use Rattle.pending.specs.Pending.{Lists, empty_answer, empty_lists, entry_at}
