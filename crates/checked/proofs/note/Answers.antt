@@ -1,5 +1,4 @@
 use Rattle.checked.proofs.Turning.{note-nothing, note-full, note-room}
-use borrow.Author.Rules.{rules}
 use Rattle.checked.proofs.note.Goals as goal
 
 pub returns-then-room-count : goal.returns-then-room-count

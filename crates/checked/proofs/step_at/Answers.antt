@@ -1,7 +1,5 @@
 use mathlib.Core.Path.{sym, ◌∙◌}
-use borrow.Author.Tests.{not-true, not-false}
 use Rattle.checked.proofs.Turning.{steps-malformed, steps-taken}
-use borrow.Author.Rules.{rules}
 use Rattle.checked.proofs.step_at.Goals as goal
 
 pub returns-then-not-takes : goal.returns-then-not-takes
