@@ -97,22 +97,14 @@ fn made(archive: &Archive, above: &Path) -> PathBuf {
 
 fn folder_of_made(archive: &Archive) -> &'static str {
     let (os, processor, host) = (variable("CARGO_CFG_TARGET_OS"), variable("CARGO_CFG_TARGET_ARCH"), variable("HOST"));
-    match (os.as_str(), processor.as_str()) {
-        ("linux", "x86_64") => "target/staticlib",
-        ("linux", "aarch64") if host.starts_with("aarch64") => {
-            println!(
-                "cargo:warning=target/native/lib{}.a is linked, for testing: the proved LLVM module, compiled for \
-                 aarch64; what is delivered is x86-64",
-                archive.of
-            );
-            "target/native"
-        }
-        _ => fail(&format!(
+    if (os.as_str(), processor.as_str()) != ("linux", "x86_64") {
+        fail(&format!(
             "no archive can be made for {os} on {processor} here ({host}): rt makes them for x86-64 Linux; \
              set {} to one that exports {}",
             archive.variable, archive.exports
-        )),
+        ));
     }
+    "target/staticlib"
 }
 
 fn make(archive: &Archive, tool: &Path) {

@@ -29,7 +29,7 @@ at_most() { # COUNT ARGUMENT..
 crates_only() { # ARGUMENT..
     for crate; do
         case $crate in *[!a-z0-9_]* | '') refuse_arguments "unknown argument: $crate" ;; esac
-        grep -q "^$crate:" "$root/crates.txt" || refuse_arguments "crates.txt has no crate $crate"
+        grep -Eq "^$crate( staticlib)?:" "$root/crates.txt" || refuse_arguments "crates.txt has no crate $crate"
     done
 }
 

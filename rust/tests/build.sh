@@ -77,7 +77,7 @@ expect_asked() { # COUNT WHEN
 
 in_the_repository() {
     copy_crate "$work/repository/rust"
-    cp -r "$rust/../crates" "$rust/../crates.txt" "$rust/../tools" "$work/repository"
+    tar -C "$rust/.." --exclude=out -cf - crates crates.txt tools | tar -C "$work/repository" -xf -
     find "$work/repository" -exec touch -d '1 hour ago' {} +
     stand_in
     expect_asked "$count" "the first time"
