@@ -187,20 +187,20 @@ GivenCallsUndo =
 -- And of the steps over a list of records, which are proved by hand: state, memory, list and count are as they were.
 abbrev pub RecordStepsRestore : Type 2
 RecordStepsRestore =
-    Says checked·step.ended (λ M 𝓤. checked·step.clauses {M = M} 𝓤) steps
+    Says checked·step.ended (λ M 𝓤 𝓛. checked·step.clauses 𝓛) steps
     × ((κs : Lfts 2) (a : Args checked·step.signature κs) (x : Leaves checked·step.ended κs a) → Allows checked·step.ended steps κs a x
     → (r : Refusal) → x.0.went ≡ W.Refused r → records_after κs a x ≡ records_given κs a)
 
 abbrev pub StepsInPlaceRestore : Type 2
 StepsInPlaceRestore =
-    Says step_in_place.ended (λ M 𝓤. step_in_place.clauses {M = M} 𝓤) steps_in_place
+    Says step_in_place.ended (λ M 𝓤 𝓛. step_in_place.clauses 𝓛) steps_in_place
     × ((κs : Lfts 3) (a : Args step_in_place.signature κs) (x : Leaves step_in_place.ended κs a) → Allows step_in_place.ended steps_in_place κs a x
     → (r : Refusal) → x.0.went ≡ W.Refused r → place_after κs a x ≡ place_given κs a)
 
 -- `zkir_step` tells a refusal by its code, 1 to 9.
 abbrev pub LentStepsRestore : Type 2
 LentStepsRestore =
-    Says zkir_step.ended (λ M 𝓤. zkir_step.clauses {M = M} 𝓤) steps_lent
+    Says zkir_step.ended (λ M 𝓤 𝓛. zkir_step.clauses 𝓛) steps_lent
     × ((κs : Lfts 3) (a : Args zkir_step.signature κs) (x : Leaves zkir_step.ended κs a) → Allows zkir_step.ended steps_lent κs a x
     → 1 ≤ x.0.code → x.0.code ≤ 9 → lent_after κs a x ≡ lent_given κs a)
 

@@ -39,7 +39,7 @@ appends κs a r e =
     (r ≡ answer_to a.1.1.0 a.1.0 a.0.now)
     × (listed (with_one a.1.1.0 a.1.0 a.0.now).count e.0.now ≡ with_one a.1.1.0 a.1.0 a.0.now)
 
-pub checks·append : ByHand checks.append.ended (λ M 𝓤. checks.append.clauses {M = M} 𝓤) appends
+pub checks·append : ByHand checks.append.ended (λ M 𝓤 𝓛. checks.append.clauses 𝓛) appends
 checks·append =
     (λ M 𝓤 𝓛 m run κs a g r e. refl, λ κs a x y p q. ap₂ (λ r l. r & l & x.1.1) (p.0 ∙ sym q.0) (records-one p.1 q.1))
 
@@ -48,24 +48,24 @@ empties κs a r e =
     (r ≡ empty_answer (listed a.1.0 a.0.now))
     × (listed (empty_lists (listed a.1.0 a.0.now)).count e.0.now ≡ empty_lists (listed a.1.0 a.0.now))
 
-pub checks·empty : ByHand checks.empty.ended (λ M 𝓤. checks.empty.clauses {M = M} 𝓤) empties
+pub checks·empty : ByHand checks.empty.ended (λ M 𝓤 𝓛. checks.empty.clauses 𝓛) empties
 checks·empty =
     (λ M 𝓤 𝓛 m run κs a g r e. refl, λ κs a x y p q. ap₂ (λ r l. r & l & x.1.1) (p.0 ∙ sym q.0) (records-one p.1 q.1))
 
 abbrev reads : Telling checks.read.ended
 reads κs a r e = r ≡ entry_at a.1.1.0 (listed a.1.0 a.0.now)
 
-pub checks·read : ByHand checks.read.ended (λ M 𝓤. checks.read.clauses {M = M} 𝓤) reads
+pub checks·read : ByHand checks.read.ended (λ M 𝓤 𝓛. checks.read.clauses 𝓛) reads
 checks·read = (λ M 𝓤 𝓛 m run κs a g r e. refl, λ κs a x y. one (λ r. r & x.1))
 
 abbrev notes : Telling checks.note_at.ended
 notes κs a r e = e.0.now ≡ set a.0.now a.1.0 a.1.1.0
 
-pub checks·note-at : ByHand checks.note_at.ended (λ M 𝓤. checks.note_at.clauses {M = M} 𝓤) notes
+pub checks·note-at : ByHand checks.note_at.ended (λ M 𝓤 𝓛. checks.note_at.clauses 𝓛) notes
 checks·note-at = (λ M 𝓤 𝓛 m run κs a g r e. refl, λ κs a x y. one (λ l. tt & l & x.1.1))
 
 -- ---- checked
-pub checked·step : ByHand checked.step.ended (λ M 𝓤. checked.step.clauses {M = M} 𝓤) steps
+pub checked·step : ByHand checked.step.ended (λ M 𝓤 𝓛. checked.step.clauses 𝓛) steps
 checked·step = (
   λ M 𝓤 𝓛 m run κs a g r e. refl,
   λ κs a x y. over (λ (s : Left) l. one_step_of s & tt & tt & s.world.memory & l & tt & tt) (λ s. s.lists) refl refl,
@@ -76,19 +76,19 @@ runs κs a r e =
     ran_over r e.1.1.1.0.now e.1.1.1.1.0.now
     ≡ run a.0.mode (rules_of a.0) a.1.1.0 (world_of a.1.0 a.1.1.1.0.now) (listed a.1.1.1.1.1.0 a.1.1.1.1.0.now)
 
-pub checked·run : ByHand checked.run.ended (λ M 𝓤. checked.run.clauses {M = M} 𝓤) runs
+pub checked·run : ByHand checked.run.ended (λ M 𝓤 𝓛. checked.run.clauses 𝓛) runs
 checked·run = (
   λ M 𝓤 𝓛 m run κs a g r e. refl,
   λ κs a x y. over (λ (s : Answer) l. ran_of s & tt & tt & tt & s.world.memory & l & tt & tt) (λ s. s.lists) refl refl,
 )
 
 -- ---- lent
-pub lent·step-in-place : ByHand lent.step_in_place.ended (λ M 𝓤. lent.step_in_place.clauses {M = M} 𝓤) steps_in_place
+pub lent·step-in-place : ByHand lent.step_in_place.ended (λ M 𝓤 𝓛. lent.step_in_place.clauses 𝓛) steps_in_place
 lent·step-in-place = (
   λ M 𝓤 𝓛 m run κs a g r e. refl,
   λ κs a x y. over (λ (s : Left) l. outcome_of s & state_of s.world & tt & s.world.memory & l & tt & tt) (λ s. s.lists) refl refl,
 )
 
-pub lent·exported·zkir-step : ByHand lent.exported.zkir_step.ended (λ M 𝓤. lent.exported.zkir_step.clauses {M = M} 𝓤) steps_lent
+pub lent·exported·zkir-step : ByHand lent.exported.zkir_step.ended (λ M 𝓤 𝓛. lent.exported.zkir_step.clauses 𝓛) steps_lent
 lent·exported·zkir-step =
     (λ M 𝓤 𝓛 m run κs a g r e. refl, λ κs a x y. over (λ (s : LentStep) l. s.answer & s.state & s.memory & l & tt & tt & tt) (λ s. s.lists) refl refl)
