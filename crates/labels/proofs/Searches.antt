@@ -1,14 +1,12 @@
 -- One slot of the table after another. Assumes nothing.
 use mathlib.Core.Path.{◌≡◌, refl, sym, ap, ◌∙◌, subst}
 use mathlib.Core.Bool.{Bool, true, false, cond}
-use mathlib.Core.List.{List, [], ◌∷◌}
-use Prim.Native.Nat.{ℕ, zero, suc, ◌+◌, ◌-◌, ◌*◌, ◌/◌, ◌^◌, ◌≤◌, ◌<◌}
+use mathlib.Core.List.{List}
+use Prim.Native.Nat.{ℕ, zero, suc, ◌+◌, ◌-◌, ◌*◌, ◌/◌, ◌^◌, ◌<◌}
 use native.Mathlib.Nat.{mod-lt, mul-lt-mul_of_pos_right}
 use native.Mathlib.Omega.{arith}
-use native.Mathlib.Numerals.{add-one, add-two, sub-one}
-use lib.ListN.{set}
-use lib.Seq.{sets}
-use borrow.Author.Tests.{eq-eqb, ne_eqb, eqb-false, ltb-false, lt-ltb, le-ltb}
+use native.Mathlib.Numerals.{sub-one}
+use borrow.Author.Tests.{eq-eqb, ne_eqb, eqb-false, ltb-false}
 use lib.Dec.{eqb, ltb}
 use Rattle.labels.specs.Bytes.{key_of}
 use Rattle.labels.specs.Table.{slots_of, key_at, spread_of, home_of, next_of, holds_name, search_from, search_in}
@@ -44,20 +42,6 @@ home_below key slots h = go (ltb slots (2 ^ 32)) refl
     go : (t : Bool) → ltb slots (2 ^ 32) ≡ t → cond t (spread_of key * slots / 2 ^ 32) (spread_of key) < slots
     go true e = omega (arith, spread-below key slots h)
     go false e = let g = ltb-false slots (2 ^ 32) e in let l : spread_of key < 2 ^ 32 = mod-lt _ (omega arith) in omega arith
-
--- what the code computes, where h is the key spread
-module _ (key slots h : ℕ) (e : h ≡ spread_of key) (s : 0 < slots) where
-  pub home_fits : slots < 2 ^ 32 → h * slots < 2 ^ 64
-  home_fits l = let b : h * slots < 2 ^ 32 * slots = subst (λ (n : ℕ). n * slots < 2 ^ 32 * slots) (sym e) (spread-below key slots s) in omega arith
-
-  at_home : (r : ℕ) → r ≡ home_of key slots → (r ≡ home_of key slots) × (r < slots)
-  at_home r q = (q, subst (◌< slots) (sym q) (home_below key slots s))
-
-  pub home-scaled : slots < 2 ^ 32 → (h * slots / 2 ^ 32 ≡ home_of key slots) × (h * slots / 2 ^ 32 < slots)
-  home-scaled l = at_home (h * slots / 2 ^ 32) (rw (lt-ltb slots (2 ^ 32) l, e))
-
-  pub home-whole : 2 ^ 32 ≤ slots → (h ≡ home_of key slots) × (h < slots)
-  home-whole l = at_home h (rw (le-ltb slots (2 ^ 32) l, e))
 
 pub next-below : (slots k : ℕ) → k < slots → next_of slots k < slots
 next-below slots k h = go (eqb (k + 1) slots) refl
@@ -95,6 +79,3 @@ module _ (text table name : List ℕ) where
 
   pub free-below : (k : ℕ) → search_in text table name ≡ Free k → k < slots_of table
   free-below k e = subst (slot_below (slots_of table)) e search-below
-
-pub three-sets : (l : List ℕ) (i a b c : ℕ) → set (set (set l i a) (i + 1) b) (i + 2) c ≡ sets l i (a ∷ (b ∷ (c ∷ [])))
-three-sets l i a b c = ap (λ (n : ℕ). set (set (set l i a) n b) (i + 2) c) (add-one i) ∙ ap (λ (n : ℕ). set (set (set l i a) (suc i) b) n c) (add-two i)

@@ -89,9 +89,6 @@ pub record NameRead (s : List ℕ) (at v n : ℕ) : Type 0 where
   pub to : Going is_part s at n
 
 module _ (s : List ℕ) (at : ℕ) where
-  pub name-starts : NameRead s at 0 at
-  name-starts = record { key = refl; to = starts is_part s at }
-
   module _ (v n : ℕ) (g : NameRead s at v n) where
     pub name-on : (b : ℕ) → b ≡ head_of (drop n s) → is_part b ≡ true → NameRead s at (v % 2 ^ 56 * 256 + b) (n + 1)
     name-on b e h =

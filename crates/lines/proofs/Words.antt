@@ -1,5 +1,5 @@
 -- The operands of an instruction one by one, and its word. Assumes nothing.
-use Rattle.std.proofs.Common.{◌≡◌, ℕ, ◌+◌, ◌%◌, ◌^◌, ◌<◌, ◌≤◌, Bool, true, false, cond, eqb, ltb, List, [], ◌∷◌, length, drop, ℤ, pos, sym, refl, ap, ◌∙◌, arith, w64, of_z, ltb-false, ltb-true, lt-ltb}
+use Rattle.std.proofs.Common.{◌≡◌, ℕ, ◌+◌, ◌%◌, ◌^◌, ◌<◌, ◌≤◌, Bool, true, false, cond, eqb, ltb, List, [], ◌∷◌, length, drop, ℤ, pos, sym, refl, ap, ◌∙◌, arith, w64, of_z, ltb-false, ltb-true}
 use mathlib.Core.Option.{Option, none, some}
 use Rattle.opcode.specs.Opcodes.{opcode_number, form_of}
 use Rattle.opcode.specs.declared.Opcode.{Opcode}
@@ -13,9 +13,9 @@ use Rattle.sums.specs.Reader.{Got, got, bad, onto}
 use Rattle.sums.specs.Code.{of64}
 use Rattle.lines.proofs.Steps.{nothing-end, nothing-not}
 use Rattle.sums.proofs.Differences.{dif-ge, dif-lt}
-use Rattle.lines.specs.Lines.{Kind, register, kinds_of, pushed, parts, parts_by, word_made, word_for, saying_of, Saying, word, wrong}
+use Rattle.lines.specs.Lines.{Kind, register, kinds_of, pushed, parts, parts_by, word_made, word_for, saying_of, Saying}
 use Rattle.lines.specs.Reader.{operand_read, nothing, with, operands_read}
-use Rattle.lines.specs.Code.{comma_read, last_read, word_or_wrong, is_numbered}
+use Rattle.lines.specs.Code.{comma_read, last_read, is_numbered}
 
 -- ---- operands, one by one
 module _ (look : List ℕ → Option ℤ) where
@@ -68,9 +68,6 @@ none-word op o e = ap (λ (x : Option (List ℤ)). saying_of (word_for op x)) e
 pub some_word : (op : Opcode) (o : Option (List ℤ)) (vs : List ℤ) (p : Parts) → o ≡ some vs → parts_by op (form_of op) vs ≡ p → saying_of (word_for op o) ≡ saying_of (word_made (encoded_in opcode_number p))
 unfolding word_for
 some_word op o vs p e q = ap (λ (x : Option (List ℤ)). saying_of (word_for op x)) e ∙ ap (λ (x : Parts). saying_of (word_made (encoded_in opcode_number x))) q
-
-pub word-is : (w n : ℕ) → n ≡ w → n < 2 ^ 32 → word w ≡ word_or_wrong n
-word-is w n e h = ap word (sym e) ∙ sym (ap (λ (c : Bool). cond c (word n) wrong) (lt-ltb n (2 ^ 32) h))
 
 module _ (op : Opcode) (a b : ℕ) where
   pub parts-three : (c : ℕ) → form_of op ≡ R → parts_by op (form_of op) (pos a ∷ (pos b ∷ (pos c ∷ []))) ≡ parts op a b c 0

@@ -4,5 +4,4 @@ pub mod Names
 pub mod Pieces
 pub mod Registers
 pub mod Rooms
-pub mod Texts
 pub mod Words

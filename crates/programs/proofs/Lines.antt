@@ -203,12 +203,3 @@ module _ (s : List ℕ) (at n : ℕ) (g : Going is_text s at n) where
         within = λ i. h;
         beyond = λ i. let b = g.beyond i in omega arith;
       }
-
-  -- from there on somebody else looks
-  pub feed-rest : (r : ℕ) → Passed is_text s n r → Passed is_text s at r
-  feed-rest r p = record {
-    rest = p.rest ∙ sym g.from;
-    on = let a = p.on in let b = g.on in omega arith;
-    within = λ h. p.within (g.within h);
-    beyond = λ h. let e = g.beyond h in p.beyond (omega arith) ∙ e;
-  }

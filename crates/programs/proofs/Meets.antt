@@ -12,9 +12,8 @@ use lib.Seq.{length-sets}
 use borrow.Author.Tests.{leb-true, leb-false, ne_eqb, not-true}
 use Rattle.labels.specs.Bytes.{key_of}
 use Rattle.labels.specs.Reading.{name_at}
-use Rattle.labels.specs.Table.{slots_of, search_in, noted_by, with_label}
+use Rattle.labels.specs.Table.{slots_of, search_in}
 use Rattle.labels.specs.declared.table.Slot.{Slot}
-use Rattle.labels.specs.declared.table.Noted.TheVariants as N
 use Rattle.opcode.specs.Opcodes.{opcode_in, form_of}
 use Rattle.opcode.specs.declared.Form.{Form}
 use Rattle.opcode.specs.declared.Found.{Found}
@@ -28,28 +27,11 @@ use Rattle.lines.specs.declared.Start.{Start}
 use Rattle.lines.proofs.Starts.{Started, began}
 use Rattle.lines.proofs.Ends.{plain-start}
 use Rattle.programs.specs.Programs.{no_labels, labels_from}
-use Rattle.programs.specs.Code.{tellers_of, Spans, second_by, one_more, After, after, defined, slot_after, label_after, start_after, is_plain, line_after}
+use Rattle.programs.specs.Code.{tellers_of, Spans, one_more, After, after, slot_after, label_after, start_after, is_plain, line_after}
 use Rattle.programs.specs.declared.spans.Span.{Span}
 use Rattle.programs.specs.declared.noting.Tally.{Tally}
 use Rattle.programs.specs.declared.noting.Met.{Met}
 use Rattle.programs.proofs.Notes.{text-letter, text-name, Counts, Noting, noting-blank, noting-other, noting-short, noting-full, noting-again, noting-new}
-
--- ---- what the code finds
-module _ (table : List ℕ) (place key line : ℕ) (t : Tally) where
-  pub after-new : (r : Slot) → noted_by r ≡ N.New → after (defined t.second t) (with_label r table place key t.own) ≡ slot_after r table place key line t
-  after-new (Slot.Held k) e = absurd (let z : ◌≡◌ {A = ℕ} 0 1 = cc in omega arith)
-  after-new (Slot.Free k) e = refl
-  after-new Slot.Full e = absurd (let z : ◌≡◌ {A = ℕ} 0 1 = cc in omega arith)
-
-  pub after-again : (r : Slot) → noted_by r ≡ N.Again → after (defined (second_by t.second line) t) (with_label r table place key t.own) ≡ slot_after r table place key line t
-  after-again (Slot.Held k) e = refl
-  after-again (Slot.Free k) e = absurd (let z : ◌≡◌ {A = ℕ} 0 1 = cc in omega arith)
-  after-again Slot.Full e = absurd (let z : ◌≡◌ {A = ℕ} 0 1 = cc in omega arith)
-
-  pub after-full : (r : Slot) → noted_by r ≡ N.NoRoom → after Met.Short (with_label r table place key t.own) ≡ slot_after r table place key line t
-  after-full (Slot.Held k) e = absurd (let z : ◌≡◌ {A = ℕ} 0 1 = cc in omega arith)
-  after-full (Slot.Free k) e = absurd (let z : ◌≡◌ {A = ℕ} 0 1 = cc in omega arith)
-  after-full Slot.Full e = refl
 
 -- ---- an instruction counts, right or wrong
 pub instruction-counts : (f : Found) (look : Form → List ℕ → Option ℤ) (u : List ℕ) → Counts (instruction_read f look u)

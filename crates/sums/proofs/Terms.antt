@@ -122,9 +122,6 @@ module _ (T : List ℕ → Got) (f : ℕ) (v : ℤ) (s : List ℕ) (n : ℕ) whe
   unfolding more_by
   more-stop h = let k = sign_at-none (head_of (drop n s)) h in simp (k.0, k.1)
 
-  pub more-sign : (sign_at (head_of (drop n s)) ≡ 0 → ⊥) → n < length s
-  more-sign h = inside s n (λ z. h (ap sign_at z))
-
   pub more-goes : (c : ℕ) → c ≡ sign_at (head_of (drop n s)) → (c ≡ 0 → ⊥) → (m : ℕ) → Passed is_space s (n + 1) m → more_by T (suc f) v (drop n s) ≡ goes T f (op_of c) v (T (drop m s))
   unfolding more_by goes
   more-goes c e h m p = go (eqb (head_of (drop n s)) 43) (eqb (head_of (drop n s)) 45) refl refl
