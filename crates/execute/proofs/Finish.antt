@@ -4,7 +4,6 @@ use mathlib.Core.Path.{◌≡◌, refl, sym, ap, ◌∙◌}
 use mathlib.Core.Bool.{true, false}
 use Rattle.state.specs.Registers.{Registers}
 use Rattle.effect.specs.Notes.{Notes}
-use Rattle.effect.specs.Outcomes.{Outcome}
 use Rattle.effect.specs.Effects.{seen, effect}
 use Rattle.pending.specs.declared.Room.{Room}
 use Rattle.deferred.specs.Limbs.{Limbed, limbed}

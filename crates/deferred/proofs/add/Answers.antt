@@ -2,7 +2,6 @@ use Rattle.deferred.proofs.Waiting.{sum-of-limbs}
 use Rattle.deferred.specs.Limbs.{limbed}
 use mathlib.Core.Bool.{true}
 use mathlib.Core.Path.{ap, ◌∙◌}
-use borrow.Author.Rules.{rules}
 use Rattle.deferred.proofs.add.Goals as goal
 
 pub returns : goal.returns

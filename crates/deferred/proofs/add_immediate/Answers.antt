@@ -3,7 +3,6 @@ use Rattle.state.proofs.Files.{normalise-none}
 use Rattle.deferred.specs.Limbs.{limbed}
 use mathlib.Core.Bool.{true}
 use mathlib.Core.Path.{refl, ap, ◌∙◌}
-use borrow.Author.Rules.{rules}
 use Rattle.deferred.proofs.add_immediate.Goals as goal
 
 pub returns : goal.returns

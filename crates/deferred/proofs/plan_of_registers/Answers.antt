@@ -1,5 +1,5 @@
 use mathlib.Core.Path.{sym, ◌∙◌}
-use Rattle.deferred.proofs.Forms.{two-add, two-sub, two_none}
+use Rattle.deferred.proofs.Forms.{two-add, two_none}
 use Rattle.deferred.proofs.plan_of_registers.Goals as goal
 
 pub returns-then-same : goal.returns-then-same

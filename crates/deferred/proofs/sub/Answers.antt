@@ -1,7 +1,6 @@
 use Rattle.state.specs.Held.{low_of, high_of}
 use Rattle.deferred.specs.Limbs.{limbs}
 use mathlib.Core.Path.{◌∙◌}
-use borrow.Author.Rules.{rules}
 use Rattle.deferred.proofs.sub.Goals as goal
 
 pub returns : goal.returns

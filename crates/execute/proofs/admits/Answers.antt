@@ -1,8 +1,6 @@
 use Rattle.execute.proofs.Admitting.{not-formed}
 use Rattle.execute.specs.Execute.{admits}
-use borrow.Author.Tests.{not-true, not-false}
 use mathlib.Core.Path.{sym, ◌∙◌}
-use borrow.Author.Rules.{rules}
 use Rattle.execute.proofs.admits.Goals as goal
 
 pub returns-then-not-well_formed : goal.returns-then-not-well_formed

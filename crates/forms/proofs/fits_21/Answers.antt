@@ -1,5 +1,5 @@
 use Rattle.encoding.proofs.Extends.{fits-test}
-use Rattle.std.proofs.Common.{arith, rules}
+use Rattle.std.proofs.Common.{arith}
 use Rattle.forms.proofs.fits_21.Goals as goal
 
 pub returns : goal.returns

@@ -1,7 +1,5 @@
 use Rattle.given.proofs.Encoding.{not-admitted, not-encoded, encoded}
-use borrow.Author.Tests.{not-true, not-false}
 use mathlib.Core.Path.{sym, ◌∙◌}
-use borrow.Author.Rules.{rules}
 use Rattle.given.proofs.execute.Goals as goal
 
 pub returns-then-not-admits : goal.returns-then-not-admits

@@ -1,5 +1,4 @@
 use Rattle.host.proofs.Calls.{one-leg}
-use borrow.Author.Rules.{rules}
 use Rattle.host.proofs.run_taken.Goals as goal
 
 pub returns : goal.returns

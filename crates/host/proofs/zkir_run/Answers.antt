@@ -2,8 +2,6 @@ use Rattle.pending.specs.Pending.{no_lists}
 use Rattle.host.proofs.Calls.{call-refused, call-of-another-length, call-served}
 use Rattle.run.specs.Run.{answer}
 use Rattle.execute.specs.World.{world_of}
-use borrow.Author.Tests.{not-true, not-false}
-use borrow.Author.Rules.{rules}
 use Rattle.host.proofs.zkir_run.Goals as goal
 
 pub returns-then-state-ne-STATE_BYTES : goal.returns-then-state-ne-STATE_BYTES

@@ -1,6 +1,5 @@
 use Rattle.memory.proofs.Accesses.{on-served, on-beyond, on-mis, served-fits}
 use mathlib.Core.Path.{sym, ◌∙◌}
-use borrow.Author.Rules.{rules}
 use Rattle.memory.proofs.load.Goals as goal
 
 pub read-requires : goal.read-requires

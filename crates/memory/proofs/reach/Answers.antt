@@ -1,7 +1,5 @@
-use borrow.Author.Tests.{not-true, not-false}
 use Rattle.memory.proofs.Accesses.{is-mis, is-beyond, is-served}
 use mathlib.Core.Path.{sym, ◌∙◌}
-use borrow.Author.Rules.{rules}
 use Rattle.memory.proofs.reach.Goals as goal
 
 pub returns-then-not-aligned : goal.returns-then-not-aligned

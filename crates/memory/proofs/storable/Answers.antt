@@ -1,6 +1,5 @@
 use Rattle.memory.proofs.Accesses.{on-served, on-beyond, on-mis}
 use mathlib.Core.Path.{sym, ◌∙◌}
-use borrow.Author.Rules.{rules}
 use Rattle.memory.proofs.storable.Goals as goal
 
 pub returns-in-Served : goal.returns-in-Served

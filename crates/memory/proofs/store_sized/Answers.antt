@@ -1,7 +1,6 @@
 use Rattle.memory.proofs.Accesses.{stored-fits}
 use Rattle.memory.specs.Memory.{on_stored}
 use mathlib.Core.Path.{sym, ◌∙◌}
-use borrow.Author.Rules.{rules}
 use Rattle.memory.proofs.store_sized.Goals as goal
 
 pub write-requires : goal.write-requires

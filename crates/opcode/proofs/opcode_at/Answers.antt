@@ -1,5 +1,5 @@
 use Rattle.opcode.proofs.Numberings.{valid, last}
-use Rattle.opcode.specs.Opcodes.{opcode_number, first_with, all}
+use Rattle.opcode.specs.Opcodes.{opcode_number, all}
 use Rattle.opcode.specs.declared.Opcode.TheVariants as O
 use mathlib.Core.Path.{◌∙◌}
 use lib.ListN.{take}

@@ -1,5 +1,4 @@
 use Rattle.opcode.proofs.Numberings.{no-opcode}
-use borrow.Author.Rules.{rules}
 use Rattle.opcode.proofs.opcode_of.Goals as goal
 
 pub returns-else-n : goal.returns-else-n

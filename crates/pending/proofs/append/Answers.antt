@@ -2,7 +2,6 @@ use Rattle.pending.specs.declared.Counted.TheVariants.{Count}
 use Rattle.pending.proofs.Lists.{append-malformed, append-full, append-done}
 use Rattle.pending.specs.Pending.{Lists, lacks}
 use Rattle.pending.specs.declared.Room.{Room}
-use borrow.Author.Tests.{not-true, not-false}
 use mathlib.Core.Path.{sym, ◌∙◌, ap}
 use Rattle.pending.proofs.append.Goals as goal
 

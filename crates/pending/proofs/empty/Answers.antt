@@ -1,5 +1,4 @@
 use Rattle.pending.proofs.Lists.{empty-malformed, empty-done}
-use borrow.Author.Tests.{not-true, not-false}
 use mathlib.Core.Path.{sym, ◌∙◌}
 use Rattle.pending.proofs.empty.Goals as goal
 

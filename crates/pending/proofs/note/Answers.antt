@@ -1,6 +1,5 @@
 use Rattle.pending.proofs.Lists.{no_place, a-place}
 use native.Mathlib.Omega.{arith}
-use borrow.Author.Rules.{rules}
 use Rattle.pending.proofs.note.Goals as goal
 
 pub returns-then-values-count : goal.returns-then-values-count

@@ -1,6 +1,4 @@
-use Rattle.pending.specs.Pending.{lists}
-use Rattle.pending.proofs.Lists.{entry-malformed, entry-beyond, entry-there, fits-mean}
-use borrow.Author.Tests.{not-true, not-false}
+use Rattle.pending.proofs.Lists.{entry-malformed, entry-beyond, entry-there}
 use native.Mathlib.Omega.{arith}
 use mathlib.Core.Path.{sym, ◌∙◌}
 use Rattle.pending.proofs.read.Goals as goal

@@ -1,7 +1,6 @@
 use Rattle.pending.proofs.Lists.{no-list, room-left}
 use mathlib.Core.Path.{refl}
 use native.Mathlib.Omega.{arith}
-use borrow.Author.Rules.{rules}
 use Rattle.pending.proofs.room_at.Goals as goal
 
 pub returns-then-len-eq0 : goal.returns-then-len-eq0

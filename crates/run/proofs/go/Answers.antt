@@ -1,7 +1,5 @@
-use Rattle.std.proofs.Common.{◌≡◌, ◌+◌, ◌^◌, ◌<◌, length, sym, refl, ◌∙◌}
-use Rattle.pending.specs.Pending.{lists}
-use Rattle.run.specs.Legs.{comes_to}
-use Rattle.run.proofs.Loops.{ahead, fits, turned, falls, ended}
+use Rattle.std.proofs.Common.{sym, ◌∙◌}
+use Rattle.run.proofs.Loops.{fits, turned, falls}
 use Rattle.run.proofs.go.Goals as goal
 
 pub loop-r-smaller : goal.loop-r-smaller

@@ -1,7 +1,7 @@
-use Rattle.std.proofs.Common.{◌≡◌, ◌+◌, ◌^◌, ◌<◌, length, sym, refl, ◌∙◌}
+use Rattle.std.proofs.Common.{◌≡◌, ◌+◌, ◌^◌, ◌<◌, length}
 use Rattle.pending.specs.Pending.{lists}
 use Rattle.run.specs.Legs.{comes_to}
-use Rattle.run.proofs.Loops.{ahead, fits, turned, falls, ended}
+use Rattle.run.proofs.Loops.{ahead}
 use Rattle.run.proofs.go.Given as goal
 
 abbrev pub invariant-loop-r : goal.invariant-loop-r

@@ -1,5 +1,5 @@
 use Rattle.run.proofs.Loops.{begins}
-use Rattle.std.proofs.Common.{◌∙◌, arith, rules}
+use Rattle.std.proofs.Common.{◌∙◌}
 use Rattle.run.proofs.run_plain.Goals as goal
 
 pub returns : goal.returns

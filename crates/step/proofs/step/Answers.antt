@@ -1,8 +1,6 @@
 use Rattle.step.proofs.Steps.{step-malformed, step-taken}
 use Rattle.step.proofs.Legs.{step-is-leg}
-use borrow.Author.Tests.{not-true, not-false}
 use mathlib.Core.Path.{sym, ◌∙◌}
-use borrow.Author.Rules.{rules}
 use Rattle.step.proofs.step.Goals as goal
 
 pub returns-then-not-takes : goal.returns-then-not-takes

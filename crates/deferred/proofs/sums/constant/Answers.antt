@@ -1,6 +1,5 @@
 use Rattle.state.specs.Held.{low_of, high_of}
 use native.Mathlib.Omega.{arith}
-use borrow.Author.Rules.{rules}
 use Rattle.deferred.proofs.sums.constant.Goals as goal
 
 pub returns : goal.returns

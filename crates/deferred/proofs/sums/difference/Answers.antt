@@ -1,9 +1,7 @@
 use Rattle.deferred.proofs.Waiting.{covers-limbs}
 use Rattle.state.specs.Held.{kept, waits}
-use borrow.Author.Tests.{not-true, not-false}
 use mathlib.Core.Path.{sym, ◌∙◌}
 use native.Mathlib.Omega.{arith}
-use borrow.Author.Rules.{rules}
 use Rattle.deferred.proofs.sums.difference.Goals as goal
 
 pub overflow_sub-result : goal.overflow_sub-result

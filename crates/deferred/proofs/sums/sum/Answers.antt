@@ -1,10 +1,7 @@
-use Rattle.deferred.proofs.Waiting.{fits-true, waited, forced}
+use Rattle.deferred.proofs.Waiting.{waited, forced}
 use Rattle.deferred.specs.Limbs.{limbed}
 use mathlib.Core.Bool.{true}
 use mathlib.Core.Path.{ap, sym, ◌∙◌}
-use Prim.Native.Nat.{◌+◌}
-use native.Mathlib.Omega.{arith}
-use borrow.Author.Rules.{rules}
 use Rattle.deferred.proofs.sums.sum.Goals as goal
 
 pub returns-then-fit : goal.returns-then-fit

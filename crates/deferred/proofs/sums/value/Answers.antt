@@ -1,6 +1,5 @@
 use Rattle.state.specs.Held.{value_of}
 use mathlib.Core.Path.{refl}
-use borrow.Author.Rules.{rules}
 use Rattle.deferred.proofs.sums.value.Goals as goal
 
 pub returns : goal.returns

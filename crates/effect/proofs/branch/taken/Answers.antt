@@ -8,7 +8,6 @@ use Rattle.instruction.specs.contracts.BranchKind as Kind
 use Rattle.instruction.specs.Kinds.{branch_kind_of}
 use Rattle.instruction.specs.declared.BranchKind.TheVariants.{Beq}
 use Rattle.opcode.specs.Opcodes.{all}
-use borrow.Author.Rules.{rules}
 use Rattle.effect.proofs.branch.taken.Goals as goal
 
 pub returns-in-Bne : goal.returns-in-Bne

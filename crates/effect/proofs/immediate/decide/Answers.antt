@@ -1,11 +1,8 @@
-use mathlib.Core.Path.{refl, ◌∙◌}
-use Rattle.effect.proofs.Arms.{of-form, of_others}
-use Rattle.effect.specs.Tables.{is_immediate}
-use Rattle.opcode.specs.Opcodes.{all}
+use mathlib.Core.Path.{◌∙◌}
+use Rattle.effect.proofs.Arms.{of-form}
 use Rattle.effect.specs.Effects.{effect, loading}
 use Rattle.effect.specs.Notes.{result_bits}
 use Rattle.effect.specs.Operations.{result, register_form, load_size, loaded}
-use borrow.Author.Rules.{rules}
 use Rattle.effect.proofs.immediate.decide.Goals as goal
 
 pub returns-in-Addi : goal.returns-in-Addi

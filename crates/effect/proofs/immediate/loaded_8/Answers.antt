@@ -1,6 +1,5 @@
 use Rattle.effect.specs.Effects.{on_loaded}
 use Rattle.effect.specs.Operations.{loaded}
-use borrow.Author.Rules.{rules}
 use Rattle.effect.proofs.immediate.loaded_8.Goals as goal
 
 pub returns-in-Value : goal.returns-in-Value

@@ -1,11 +1,7 @@
-use mathlib.Core.Path.{refl}
-use Rattle.effect.proofs.Arms.{of-form, of_others}
-use Rattle.effect.specs.Tables.{is_shift}
-use Rattle.opcode.specs.Opcodes.{all}
+use Rattle.effect.proofs.Arms.{of-form}
 use Rattle.effect.specs.Effects.{effect}
 use Rattle.effect.specs.Notes.{result_bits}
 use Rattle.effect.specs.Operations.{result, register_form}
-use borrow.Author.Rules.{rules}
 use Rattle.effect.proofs.immediate.shift.Goals as goal
 
 pub returns-in-Slli : goal.returns-in-Slli

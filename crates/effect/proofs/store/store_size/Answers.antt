@@ -7,7 +7,6 @@ use Rattle.opcode.specs.declared.Opcode.{Opcode}
 use Rattle.memory.specs.Memory.{size_of}
 use Rattle.memory.specs.declared.Size.TheVariants.{Byte}
 use Rattle.opcode.specs.Opcodes.{all}
-use borrow.Author.Rules.{rules}
 use Rattle.effect.proofs.store.store_size.Goals as goal
 
 pub returns-in-Sh : goal.returns-in-Sh

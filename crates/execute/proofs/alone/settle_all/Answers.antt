@@ -1,7 +1,6 @@
 use Rattle.state.specs.Registers.{normalise_to}
 use Rattle.deferred.specs.Sources.{sources, normalise_each}
 use Rattle.execute.specs.Modes.{settle_sources}
-use borrow.Author.Rules.{rules}
 use Rattle.execute.proofs.alone.settle_all.Goals as goal
 
 pub returns-in-Deferred : goal.returns-in-Deferred

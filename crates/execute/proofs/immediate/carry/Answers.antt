@@ -1,5 +1,4 @@
 use Rattle.execute.proofs.Ending.{went-writes, went-refused}
-use borrow.Author.Rules.{rules}
 use Rattle.execute.proofs.immediate.carry.Goals as goal
 
 pub returns-in-Writes : goal.returns-in-Writes

@@ -1,6 +1,5 @@
 use Rattle.execute.proofs.Ending.{went-writes, went_to, went-checks, went-full, went-refused}
 use mathlib.Core.Path.{sym, ◌∙◌}
-use borrow.Author.Rules.{rules}
 use Rattle.execute.proofs.registers.carry.Goals as goal
 
 pub returns-then-lacks : goal.returns-then-lacks

@@ -1,5 +1,4 @@
 use Rattle.execute.proofs.Finish.{on-limbs, not-on-limbs}
-use mathlib.Core.Path.{refl, ◌∙◌}
 use Rattle.execute.proofs.registers.executed.Goals as goal
 
 pub returns-then-limbs : goal.returns-then-limbs

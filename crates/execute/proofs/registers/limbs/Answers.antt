@@ -1,5 +1,4 @@
 use Rattle.execute.specs.Modes.{limbs_in}
-use borrow.Author.Rules.{rules}
 use Rattle.execute.proofs.registers.limbs.Goals as goal
 
 pub returns-in-Deferred : goal.returns-in-Deferred

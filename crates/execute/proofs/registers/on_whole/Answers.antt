@@ -1,7 +1,7 @@
 use Rattle.effect.specs.Effects.{seen}
 use Rattle.opcode.specs.declared.Form.TheVariants as F
 use Rattle.execute.proofs.Forms.{settled, decided}
-use mathlib.Core.Path.{refl, ◌∙◌, ap}
+use mathlib.Core.Path.{refl, ◌∙◌}
 use Rattle.execute.proofs.registers.on_whole.Goals as goal
 
 pub returns : goal.returns

@@ -3,7 +3,6 @@ use Rattle.execute.proofs.Forms.{settled, decided, no-limb-form, stored}
 use Rattle.execute.proofs.Ending.{went-stores, went-unstored}
 use Rattle.execute.proofs.Finish.{not-on-limbs}
 use mathlib.Core.Path.{refl, sym, ◌∙◌}
-use borrow.Author.Rules.{rules}
 use Rattle.execute.proofs.store.executed.Goals as goal
 
 pub returns-in-Done : goal.returns-in-Done

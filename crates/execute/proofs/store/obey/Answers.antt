@@ -3,7 +3,6 @@ use Rattle.execute.proofs.Forms.{obeyed-made}
 use Rattle.opcode.specs.declared.Form.TheVariants as F
 use native.Mathlib.Omega.{arith}
 use mathlib.Core.Path.{sym, refl}
-use borrow.Author.Rules.{rules}
 use Rattle.execute.proofs.store.obey.Goals as goal
 
 pub returns : goal.returns

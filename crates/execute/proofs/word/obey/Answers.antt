@@ -1,5 +1,4 @@
 use Rattle.execute.proofs.Forms.{obeyed-found, obeyed-unknown}
-use borrow.Author.Rules.{rules}
 use Rattle.execute.proofs.word.obey.Goals as goal
 
 pub returns-in-Op : goal.returns-in-Op

@@ -1,6 +1,4 @@
-use mathlib.Core.Path.{◌∙◌}
 use Rattle.memory.proofs.Numbers.{read-four}
-use borrow.Author.Rules.{rules}
 use Rattle.memory.proofs.bytes.four_at.Goals as goal
 
 pub returns : goal.returns

@@ -4,7 +4,6 @@ use Prim.Native.Nat.{◌-◌, min}
 use Rattle.memory.specs.Bytes.{number_of_bytes}
 use Rattle.memory.proofs.Numbers.{read-there}
 use native.Mathlib.Omega.{arith}
-use borrow.Author.Rules.{rules}
 use Rattle.memory.proofs.bytes.part_at.Goals as goal
 
 pub returns-then-here-eq0 : goal.returns-then-here-eq0

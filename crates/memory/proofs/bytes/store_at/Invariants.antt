@@ -1,12 +1,8 @@
 use Prim.Native.Nat.{◌≤◌, ◌+◌, ◌-◌}
-use mathlib.Core.Path.{◌≡◌, refl, sym, ◌∙◌}
-use native.Mathlib.Omega.{arith}
-use native.Mathlib.Nat.{add-zero, sub_self, sub-zero}
-use borrow.Author.Rules.{rules}
-use lib.ListN.{length, length-set}
+use mathlib.Core.Path.{◌≡◌}
+use lib.ListN.{length}
 use lib.Seq.{sets}
 use Rattle.memory.specs.Bytes.{bytes}
-use Rattle.memory.proofs.Numbers.{store-more}
 use Rattle.memory.proofs.bytes.store_at.Given as goal
 
 abbrev pub invariant-loop-i : goal.invariant-loop-i

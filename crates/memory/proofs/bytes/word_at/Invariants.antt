@@ -1,12 +1,7 @@
-use Prim.Native.Nat.{◌≤◌, ◌<◌, ◌+◌, ◌-◌, ◌*◌, ◌^◌}
-use mathlib.Core.Path.{◌≡◌, refl}
-use native.Mathlib.Omega.{arith}
-use native.Mathlib.Nat.{sub_self, sub-zero, add-zero}
-use lib.Dec.{lit<}
-use borrow.Author.Rules.{rules}
-use lib.ListN.{take, drop, get_or}
+use Prim.Native.Nat.{◌≤◌, ◌<◌, ◌+◌, ◌-◌, ◌^◌}
+use mathlib.Core.Path.{◌≡◌}
+use lib.ListN.{take, drop}
 use Rattle.memory.specs.Bytes.{number_of_bytes}
-use Rattle.memory.proofs.Numbers.{read_more, more_lt, fits_lt}
 use Rattle.memory.proofs.bytes.word_at.Given as goal
 
 abbrev pub invariant-loop-i : goal.invariant-loop-i

@@ -1,11 +1,8 @@
 use Rattle.state.proofs.Below.{all_none, all_more, all-stop}
-use Rattle.state.specs.Formed.{all_below, all_whole}
-use lib.ListN.{get_or}
-use mathlib.Core.Bool.{true, false, not}
+use Rattle.state.specs.Formed.{all_whole}
+use mathlib.Core.Bool.{not}
 use mathlib.Core.Path.{◌≡◌, sym, ap}
 use native.Mathlib.Omega.{arith}
-use Prim.Native.Nat.{◌≤◌, ◌-◌}
-use borrow.Author.Rules.{rules}
 use Rattle.state.proofs.formed.all_whole.Goals as goal
 
 pub loop-i-init : goal.loop-i-init

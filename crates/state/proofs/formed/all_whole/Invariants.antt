@@ -1,11 +1,8 @@
-use Rattle.state.proofs.Below.{all_none, all_more, all-stop}
-use Rattle.state.specs.Formed.{all_below, all_whole}
+use Rattle.state.specs.Formed.{all_below}
 use lib.ListN.{get_or}
 use mathlib.Core.Bool.{true, false, not}
-use mathlib.Core.Path.{◌≡◌, sym, ap}
-use native.Mathlib.Omega.{arith}
+use mathlib.Core.Path.{◌≡◌}
 use Prim.Native.Nat.{◌≤◌, ◌-◌}
-use borrow.Author.Rules.{rules}
 use Rattle.state.proofs.formed.all_whole.Given as goal
 
 abbrev pub invariant-loop-i : goal.invariant-loop-i

@@ -1,6 +1,6 @@
 use Rattle.state.specs.Formed.{limbs_fit}
 use Rattle.state.specs.Held.{held_of}
-use borrow.Author.Tests.{le-leb, lt-leb, lt-ltb}
+use borrow.Author.Tests.{le-leb, lt-ltb}
 use Prim.Native.Nat.{◌%◌, ◌^◌}
 use native.Mathlib.Omega.{arith}
 use Rattle.state.proofs.formed.fits.Goals as goal

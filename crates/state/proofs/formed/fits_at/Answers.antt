@@ -1,5 +1,4 @@
 use Rattle.state.specs.Formed.{register_fits}
-use borrow.Author.Rules.{rules}
 use Rattle.state.proofs.formed.fits_at.Goals as goal
 
 pub returns : goal.returns

@@ -1,12 +1,7 @@
 use Rattle.state.proofs.Below.{all_none, all_more, all-stop}
-use Rattle.state.specs.Formed.{all_below, zero_fits, register_fits, well_formed}
-use Rattle.state.specs.Registers.{registers}
-use mathlib.Core.Bool.{true}
+use Rattle.state.specs.Formed.{zero_fits, well_formed}
 use mathlib.Core.Path.{◌≡◌, sym, ◌∙◌}
 use native.Mathlib.Omega.{arith}
-use Prim.Native.Nat.{◌≤◌, ◌-◌}
-use borrow.Author.Tests.{not-true, not-false}
-use borrow.Author.Rules.{rules}
 use Rattle.state.proofs.formed.well_formed.Goals as goal
 
 pub returns-then-not-zero_fits : goal.returns-then-not-zero_fits

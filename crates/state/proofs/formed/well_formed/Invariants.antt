@@ -1,12 +1,8 @@
-use Rattle.state.proofs.Below.{all_none, all_more, all-stop}
-use Rattle.state.specs.Formed.{all_below, zero_fits, register_fits, well_formed}
+use Rattle.state.specs.Formed.{all_below, register_fits}
 use Rattle.state.specs.Registers.{registers}
 use mathlib.Core.Bool.{true}
-use mathlib.Core.Path.{◌≡◌, sym, ◌∙◌}
-use native.Mathlib.Omega.{arith}
+use mathlib.Core.Path.{◌≡◌}
 use Prim.Native.Nat.{◌≤◌, ◌-◌}
-use borrow.Author.Tests.{not-true, not-false}
-use borrow.Author.Rules.{rules}
 use Rattle.state.proofs.formed.well_formed.Given as goal
 
 abbrev pub invariant-loop-i : goal.invariant-loop-i

@@ -1,9 +1,8 @@
 use Rattle.state.proofs.Files.{normalise_to-more}
-use Rattle.state.specs.Registers.{Becomes, normalise, normalise_to}
-use borrow.Author.Rules.{rules}
+use Rattle.state.specs.Registers.{normalise, normalise_to}
 use native.Mathlib.Omega.{arith}
-use mathlib.Core.Path.{◌≡◌, refl, sym, ap, ◌∙◌}
-use Prim.Native.Nat.{◌≤◌, ◌-◌, ◌+◌}
+use mathlib.Core.Path.{refl, sym, ap, ◌∙◌}
+use Prim.Native.Nat.{◌+◌}
 use Rattle.state.proofs.registers.normalise_all.Goals as goal
 
 pub loop-k-init : goal.loop-k-init

@@ -1,9 +1,5 @@
-use Rattle.state.proofs.Files.{normalise_to-more}
-use Rattle.state.specs.Registers.{Becomes, normalise, normalise_to}
-use borrow.Author.Rules.{rules}
-use native.Mathlib.Omega.{arith}
-use mathlib.Core.Path.{◌≡◌, refl, sym, ap, ◌∙◌}
-use Prim.Native.Nat.{◌≤◌, ◌-◌, ◌+◌}
+use Rattle.state.specs.Registers.{Becomes, normalise_to}
+use Prim.Native.Nat.{◌≤◌, ◌-◌}
 use Rattle.state.proofs.registers.normalise_all.Given as goal
 
 abbrev pub invariant-loop-k : goal.invariant-loop-k

@@ -1,6 +1,5 @@
 use Rattle.state.specs.Held.{value_of, held_of}
 use native.Mathlib.Omega.{arith}
-use borrow.Author.Rules.{rules}
 use Rattle.state.proofs.registers.value_of.Goals as goal
 
 pub returns-then-waits : goal.returns-then-waits

@@ -1,6 +1,5 @@
 use Rattle.state.proofs.Files.{place_none, place_set}
 use mathlib.Core.Path.{sym}
-use borrow.Author.Rules.{rules}
 use Rattle.state.proofs.registers.write.Goals as goal
 
 pub returns-then-i-eq0 : goal.returns-then-i-eq0

@@ -1,14 +1,5 @@
-use borrow.Author.Tests.{not-true, not-false}
-use native.Mathlib.Omega.{arith}
-use mathlib.Core.Path.{◌≡◌, refl, sym, ◌∙◌}
-use Prim.Native.Nat.{◌≤◌, ◌-◌}
-use native.Mathlib.Nat.{le_refl}
-use lib.ListN.{length}
-use Rattle.state.specs.Registers.{registers}
-use Rattle.execute.specs.World.{world}
-use Rattle.execute.specs.Rules.{rules_of}
-use Rattle.step.specs.Leg.{later, leg_in}
-use Rattle.step.proofs.Legs.{one_more, less-left, steps-fit, passes_on, ends, runs-dry, begins}
+use mathlib.Core.Path.{sym, ◌∙◌}
+use Rattle.step.proofs.Legs.{one_more, passes_on, ends, runs-dry}
 use Rattle.step.proofs.leg.advance.Goals as goal
 
 pub returns-then-not-passes : goal.returns-then-not-passes

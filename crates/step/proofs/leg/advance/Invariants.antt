@@ -1,14 +1,10 @@
-use borrow.Author.Tests.{not-true, not-false}
-use native.Mathlib.Omega.{arith}
-use mathlib.Core.Path.{◌≡◌, refl, sym, ◌∙◌}
+use mathlib.Core.Path.{◌≡◌}
 use Prim.Native.Nat.{◌≤◌, ◌-◌}
-use native.Mathlib.Nat.{le_refl}
 use lib.ListN.{length}
 use Rattle.state.specs.Registers.{registers}
 use Rattle.execute.specs.World.{world}
 use Rattle.execute.specs.Rules.{rules_of}
 use Rattle.step.specs.Leg.{later, leg_in}
-use Rattle.step.proofs.Legs.{one_more, less-left, steps-fit, passes_on, ends, runs-dry, begins}
 use Rattle.step.proofs.leg.advance.Given as goal
 
 abbrev pub invariant-loop-n : goal.invariant-loop-n

@@ -1,5 +1,4 @@
 use Rattle.step.proofs.Steps.{word-obeyed, none-fetched}
-use borrow.Author.Rules.{rules}
 use Rattle.step.proofs.leg.step_in.Goals as goal
 
 pub returns-in-Word : goal.returns-in-Word

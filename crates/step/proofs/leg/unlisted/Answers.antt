@@ -1,5 +1,4 @@
 use Rattle.step.specs.Leg.{unlisted}
-use borrow.Author.Rules.{rules}
 use Rattle.step.proofs.leg.unlisted.Goals as goal
 
 pub returns-in-Nothing : goal.returns-in-Nothing

@@ -1,5 +1,5 @@
-use Rattle.std.proofs.Common.{◌∙◌, arith, rules}
-use Rattle.value.proofs.Quotients.{div-by-zero, div-pair, defined, quotient}
+use Rattle.std.proofs.Common.{◌∙◌, arith}
+use Rattle.value.proofs.Quotients.{div-by-zero, div-pair, quotient}
 use Rattle.value.proofs.division.div.Goals as goal
 
 pub returns-then-b-eq0 : goal.returns-then-b-eq0

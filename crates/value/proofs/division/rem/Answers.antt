@@ -1,5 +1,5 @@
-use Rattle.std.proofs.Common.{◌∙◌, arith, rules}
-use Rattle.value.proofs.Quotients.{rem-by-zero, rem-pair, defined, remainder}
+use Rattle.std.proofs.Common.{◌∙◌, arith}
+use Rattle.value.proofs.Quotients.{rem-by-zero, rem-pair, remainder}
 use Rattle.value.proofs.division.rem.Goals as goal
 
 pub returns-then-b-eq0 : goal.returns-then-b-eq0

@@ -1,4 +1,4 @@
-use Rattle.std.proofs.Common.{◌∙◌, arith, rules}
+use Rattle.std.proofs.Common.{◌∙◌, arith}
 use Rattle.value.proofs.Signs.{sign_kept}
 use Rattle.value.proofs.extension.extend.Goals as goal
 

@@ -1,5 +1,4 @@
-use Rattle.std.proofs.Common.{◌/◌, ◌%◌, ◌^◌, arith, rules}
-use Rattle.value.proofs.Products.{largest, low_product}
+use Rattle.value.proofs.Products.{low_product}
 use Rattle.value.proofs.forty.mul.Goals as goal
 
 pub returns : goal.returns

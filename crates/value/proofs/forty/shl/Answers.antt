@@ -1,4 +1,4 @@
-use Rattle.std.proofs.Common.{◌*◌, ◌%◌, ◌^◌, sym, rules}
+use Rattle.std.proofs.Common.{◌*◌, ◌%◌, ◌^◌, sym}
 use lib.Pow.{mod-mod-pow}
 use Rattle.value.specs.Forty.{shl40}
 use Rattle.value.proofs.Shifts.{shl-out}

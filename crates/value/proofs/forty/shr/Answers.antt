@@ -1,4 +1,4 @@
-use Rattle.std.proofs.Common.{◌%◌, ◌^◌, sym, refl, arith, rules}
+use Rattle.std.proofs.Common.{◌%◌, ◌^◌, sym, refl, arith}
 use Rattle.value.specs.Forty.{shr40}
 use Rattle.value.proofs.Shifts.{shr-out}
 use Rattle.value.proofs.forty.shr.Goals as goal

@@ -1,4 +1,4 @@
-use Rattle.std.proofs.Common.{◌%◌, ◌^◌, sym, arith, rules}
+use Rattle.std.proofs.Common.{◌%◌, ◌^◌, sym, arith}
 use Rattle.value.specs.Forty.{signed40, slt40}
 use Rattle.value.proofs.Order.{order}
 use Rattle.value.proofs.forty.slt.Goals as goal

@@ -1,4 +1,4 @@
-use Rattle.std.proofs.Common.{ℕ, ◌-◌, ◌%◌, ◌^◌, sym, ap, ◌∙◌, arith, rules}
+use Rattle.std.proofs.Common.{ℕ, ◌-◌, ◌%◌, ◌^◌, sym, ap, ◌∙◌, arith}
 use Rattle.value.proofs.Shifts.{shr-small, sra-low, sra-high}
 use Rattle.value.proofs.forty.sra.Goals as goal
 

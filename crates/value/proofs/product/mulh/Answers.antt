@@ -1,5 +1,5 @@
 use Rattle.std.proofs.Common.{ℕ, suc, ◌-◌, ◌*◌, ◌^◌, ◌≤◌, arith}
-use Rattle.value.proofs.Columns.{digit, products, sum_below, column_fits, left-fits, right-fits, answer-fits, columns-2-and-3}
+use Rattle.value.proofs.Columns.{digit, products, sum_below, column_fits, columns-2-and-3}
 use Rattle.value.proofs.product.mulh.Reads as reads
 use Rattle.value.proofs.product.mulh.Lts as lts
 use Rattle.value.proofs.product.mulh.Goals as goal

@@ -1,5 +1,5 @@
-use Rattle.std.proofs.Common.{arith, rules}
-use Rattle.value.proofs.Signs.{down_fits, down-reads}
+use Rattle.std.proofs.Common.{arith}
+use Rattle.value.proofs.Signs.{down-reads}
 use Rattle.value.proofs.signed.reading_32.Goals as goal
 
 pub returns : goal.returns

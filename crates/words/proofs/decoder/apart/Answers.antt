@@ -1,5 +1,4 @@
 use Rattle.words.proofs.Steps.{apart-refused, apart-made}
-use borrow.Author.Rules.{rules}
 use Rattle.words.proofs.decoder.apart.Goals as goal
 
 pub returns-then-unused-ne0 : goal.returns-then-unused-ne0

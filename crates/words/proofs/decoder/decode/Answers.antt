@@ -1,5 +1,4 @@
 use Rattle.words.specs.Words.{decoded_of}
-use borrow.Author.Rules.{rules}
 use Rattle.words.proofs.decoder.decode.Goals as goal
 
 pub returns-in-Apart : goal.returns-in-Apart

@@ -1,5 +1,4 @@
 use Rattle.words.specs.Words.{take_in, found_apart}
-use borrow.Author.Rules.{rules}
 use Rattle.words.proofs.decoder.take.Goals as goal
 
 pub returns-in-Op : goal.returns-in-Op

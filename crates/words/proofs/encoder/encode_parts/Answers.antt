@@ -1,5 +1,4 @@
 use Rattle.words.specs.Words.{encoded_in}
-use borrow.Author.Rules.{rules}
 use Rattle.words.proofs.encoder.encode_parts.Goals as goal
 
 pub returns-then-parts_fit : goal.returns-then-parts_fit

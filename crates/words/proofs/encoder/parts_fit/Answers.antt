@@ -1,5 +1,4 @@
 use Rattle.words.specs.Words.{parts_fit}
-use borrow.Author.Rules.{rules}
 use Rattle.words.proofs.encoder.parts_fit.Goals as goal
 
 pub returns : goal.returns

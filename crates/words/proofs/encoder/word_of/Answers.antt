@@ -8,7 +8,6 @@ use Prim.Native.Nat.{◌^◌}
 use native.Mathlib.Nat.{mod-mod}
 use mathlib.Core.List.{[], ◌∷◌}
 use mathlib.Core.Path.{refl}
-use borrow.Author.Rules.{rules}
 use Rattle.words.proofs.encoder.word_of.Goals as goal
 
 pub returns-in-R : goal.returns-in-R
