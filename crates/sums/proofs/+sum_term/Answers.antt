@@ -4,7 +4,7 @@ use Prim.Native.Nat.{◌+◌, ◌≤◌, ◌<◌}
 use lib.ListN.{length}
 use native.Mathlib.Omega.{arith}
 use Rattle.labels.specs.Bytes.{is_letter, is_space}
-use Rattle.sums.proofs.Terms.{sooner, at_byte, term-name, term-number, term-flat, term-deep, more-stop, turn-bad, turn-over, turn_on, again, sum-bad, sum_first}
+use Rattle.sums.proofs.Terms.{at_byte, term-name, term-number, term-flat, term-deep, more-stop, turn-bad, turn-over, turn_on, again, sum-bad, sum_first}
 use Rattle.sums.proofs.+sum_term.Goals as goal
 
 pub sum-returns-in_default : goal.sum-returns-in_default
@@ -75,10 +75,6 @@ term-returns-then-depth-eq0 t c = (term-flat c.args.s.now c.args.at _ _ (sym c.b
 
 pub term-overflow_add-at : goal.term-overflow_add-at
 term-overflow_add-at t c = omega (arith, at_byte c.args.s.now c.args.at 39 (sym c.byte-c.ensures ∙ c.if-c-eq40.true))
-
-pub term-closed-requires : goal.term-closed-requires
-term-closed-requires t c =
-    sooner c.args.s.now c.args.at c.skip-from.result c.sum.result (let o = (passed is_space _ _ _ c.skip-from.ensures).on in omega arith) c.sum.ensures.1
 
 pub term-returns-then-c-eq40 : goal.term-returns-then-c-eq40
 term-returns-then-c-eq40 t c = (
