@@ -1,7 +1,7 @@
 -- Every instruction keeps well-formed registers well-formed, in either mode, a pending list full or not; and so do steps and runs.
 use Prim.Native.Nat.{ℕ, ◌≤◌}
 use mathlib.Core.Path.{◌≡◌}
-use mathlib.Core.Bool.{Bool, true}
+use mathlib.Core.Bool.{true}
 use native.Mathlib.Omega.{arith}
 use Rattle.state.specs.Held.{Held, low_of, high_of, settled}
 use Rattle.state.specs.Registers.{Registers}

@@ -4,7 +4,7 @@ use Rattle.std.specs.Prelude.{ℕ, ◌≡◌, List}
 use base.Logic.{SProp}
 use contract.Lifetimes.{Lfts}
 use contract.Monad.{Fun}
-use contract.Notation.{Connectives, connectives}
+use contract.Notation.{connectives}
 use denote.Triple.Entry.{Args, Res}
 use denote.Triple.Clauses.{Ended, Clauses, AtExit}
 use types.Logic.{Logic}

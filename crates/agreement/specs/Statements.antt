@@ -1,5 +1,5 @@
 -- What this crate proves, in the words in which it is asked for.
-use Rattle.std.specs.Prelude.{ℕ, ◌+◌, ◌-◌, ◌%◌, ◌≤◌, ◌<◌, ◌≡◌, ◌≢◌, Bool, true, false, cond, List, length}
+use Rattle.std.specs.Prelude.{ℕ, ◌+◌, ◌-◌, ◌%◌, ◌≤◌, ◌<◌, ◌≡◌, ◌≢◌, true, false, cond, List, length}
 use contract.Lifetimes.{Lfts}
 use denote.Triple.Entry.{Args}
 use borrow.Fn.Kinds.{GoodsP}
