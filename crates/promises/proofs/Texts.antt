@@ -16,7 +16,6 @@ use Rattle.sums.proofs.Differences.{dif-ge, dif-lt}
 use Rattle.lines.specs.Lines.{Saying, empty, named, word, wrong}
 use Rattle.lines.specs.Code.{said_of}
 use Rattle.lines.specs.declared.Said.{Said}
-use Rattle.lines.specs.declared.Said.TheVariants as Said
 use Rattle.programs.specs.Promise.{AllLeft, Assembled}
 use Rattle.programs.proofs.Top.{one_answer}
 
