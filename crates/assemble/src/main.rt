@@ -86,14 +86,24 @@ fn assemble_with(
     assemble(rt, text, words, &mut table[..n])
 }
 
+// In buffers of its caller's, so that nothing here depends on how long they are.
+fn assemble_input(
+    rt: &(impl Print + Eprint),
+    reader: &mut impl io::Read,
+    text: &mut [u8],
+    words: &mut [u8],
+    table: &mut [u64],
+) -> io::Result<()> {
+    let n = input::fill(reader, text)?;
+    if input::has_more(reader)? {
+        return tell_refusal(rt, 9);
+    }
+    assemble_with(rt, &text[..n], words, table)
+}
+
 fn main(rt: HostRuntime) -> io::Result<()> {
     let mut text = [0u8; TEXT];
-    let mut reader = rt.stdin();
-    let n = input::fill(&mut reader, &mut text)?;
-    if input::has_more(&mut reader)? {
-        return tell_refusal(&rt, 9);
-    }
     let mut words = [0u8; WORDS];
     let mut table = [0u64; LABELS];
-    assemble_with(&rt, &text[..n], &mut words, &mut table)
+    assemble_input(&rt, &mut rt.stdin(), &mut text, &mut words, &mut table)
 }
