@@ -23,11 +23,11 @@ fn document_01s_words() {
     assert_eq!(print(&[51]).map_err(|bad| bad.refusal), Err(Refusal::BadOpcode { word: 51 }));
 }
 
-/// The definition has a line `rowOf O.Add = row 1 R` for each opcode.
+/// The definition has a line `row_of O.Add = row 1 R` for each opcode.
 #[test]
 fn names_and_forms_are_those_of_the_definition() {
     let definition = fs::read_to_string(repository("crates/opcode/specs/Opcodes.antt")).expect("the definition");
-    let rows = definition.lines().filter_map(|line| line.strip_prefix("rowOf O."));
+    let rows = definition.lines().filter_map(|line| line.strip_prefix("row_of O."));
     let rows: Vec<Vec<&str>> = rows.map(|row| row.split(' ').filter(|word| !word.is_empty()).collect()).collect();
     assert_eq!(rows.len(), 50);
     for row in rows {
