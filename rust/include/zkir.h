@@ -2,7 +2,7 @@
  * checkpoints, with what a host needs around them.
  *
  * The run is in libzkir_run.a, the step in libzkir_step.a, assembler and printer in libzkir_text.a, the calls for
- * checkpoints in libzkir_checkpoint.a, as a distribution has them (tools/dist); in the repository `rt staticlib` makes
+ * checkpoints in libzkir_checkpoint.a, as a distribution has them (tools/dist); in the repository `tools/archives` makes
  * them, of the crates host, lent, text and checkpoint, as libhost.a and so on. An archive calls nothing but memcpy, or
  * another of what a compiler calls by itself: memmove, memset, memcmp. It needs no heap, no file and no thread.
  *
