@@ -1,8 +1,18 @@
-// The registers, in three lent arrays: reading, writing, normalising. They are numbered modulo 16.
+// The sixteen registers: reading, writing, normalising. They are numbered modulo 16.
 ghost use Rattle.std.specs.Prelude.{◌≡◌, ◌%◌, ◌<◌, ◌^◌, false, get_or};
 ghost use Rattle.state.specs.Held.{value_of, low_of, high_of, held_of};
-ghost use Rattle.state.specs.Registers.{held_at, bound_at, registers, place, normalise, normalise_to, Becomes};
+ghost use Rattle.state.specs.Registers.{holds, noted, place, normalise, normalise_to};
 
+// Of each register the number that is kept, whether it is accumulated, and its bound. A whole register is kept as its value, an
+// accumulated one as low + 2^30 * high.
+#[derive(Clone, Copy)]
+pub struct Registers {
+    pub values: [u64; 16],
+    pub accumulated: [bool; 16],
+    pub bounds: [u8; 16],
+}
+
+#[tactic(auto, unfolding(crate::specs::Held::value_of, crate::specs::Held::held_of))]
 fn value_of(waits: bool, v: u64) -> u64
     ensures { result ≡ value_of (held_of waits v) }
 {
@@ -13,6 +23,7 @@ fn value_of(waits: bool, v: u64) -> u64
     }
 }
 
+#[tactic(auto, unfolding(crate::specs::Held::low_of, crate::specs::Held::held_of))]
 fn low_of(waits: bool, v: u64) -> u64
     ensures { (result ≡ low_of (held_of waits v)) × (result < 2 ^ 30) }
 {
@@ -23,6 +34,7 @@ fn low_of(waits: bool, v: u64) -> u64
     }
 }
 
+#[tactic(auto, unfolding(crate::specs::Held::high_of, crate::specs::Held::held_of))]
 fn high_of(waits: bool, v: u64) -> u64
     ensures { (result ≡ high_of (held_of waits v)) × (result < 2 ^ 34) }
 {
@@ -33,83 +45,76 @@ fn high_of(waits: bool, v: u64) -> u64
     }
 }
 
-pub fn value_at<'a>(regs: &'a [u64; 16], accumulated: &'a [bool; 16], n: u8) -> u64
-    ensures { result ≡ value_of (held_at regs.now accumulated.now n) }
-{
-    let i = (n % 16) as usize;
-    value_of(accumulated[i], regs[i])
-}
-
-pub fn low_at<'a>(regs: &'a [u64; 16], accumulated: &'a [bool; 16], n: u8) -> u64
-    ensures { (result ≡ low_of (held_at regs.now accumulated.now n)) × (result < 2 ^ 30) }
-{
-    let i = (n % 16) as usize;
-    low_of(accumulated[i], regs[i])
-}
-
-pub fn high_at<'a>(regs: &'a [u64; 16], accumulated: &'a [bool; 16], n: u8) -> u64
-    ensures { (result ≡ high_of (held_at regs.now accumulated.now n)) × (result < 2 ^ 34) }
-{
-    let i = (n % 16) as usize;
-    high_of(accumulated[i], regs[i])
-}
-
-pub fn bound_at(bounds: &[u8; 16], n: u8) -> u8
-    ensures { result ≡ bound_at bounds.now n }
-{
-    let i = (n % 16) as usize;
-    bounds[i]
-}
-
-// Whether the register is accumulated.
-pub fn waits_at(accumulated: &[bool; 16], n: u8) -> bool
-    ensures { result ≡ get_or accumulated.now (n % 16) false }
-{
-    let i = (n % 16) as usize;
-    accumulated[i]
-}
-
-// Keeps `v`, whole or as limbs, with its bound. R0 ignores it.
-pub fn write(
-    regs: &mut [u64; 16],
-    accumulated: &mut [bool; 16],
-    bounds: &mut [u8; 16],
-    rd: u8,
-    v: u64,
-    waits: bool,
-    bound: u8,
-)
-    ensures { registers regs.new accumulated.new bounds.new ≡ place (rd % 16) v waits bound (registers regs.old accumulated.old bounds.old) }
-{
-    let i = (rd % 16) as usize;
-    if i == 0 {
-        return;
+impl Registers {
+    pub fn value_at(&self, n: u8) -> u64
+        ensures { result ≡ value_of (holds self.now n) }
+    {
+        let i = (n % 16) as usize;
+        value_of(self.accumulated[i], self.values[i])
     }
-    regs[i] = v;
-    accumulated[i] = waits;
-    bounds[i] = bound;
-}
 
-// A normalised register is whole, and keeps its bound.
-pub fn normalise(regs: &mut [u64; 16], accumulated: &mut [bool; 16], n: u8)
-    ensures { Becomes (normalise n) regs.old accumulated.old regs.new accumulated.new }
-{
-    let i = (n % 16) as usize;
-    if i == 0 {
-        return;
+    pub fn low_at(&self, n: u8) -> u64
+        ensures { (result ≡ low_of (holds self.now n)) × (result < 2 ^ 30) }
+    {
+        let i = (n % 16) as usize;
+        low_of(self.accumulated[i], self.values[i])
     }
-    let v = value_at(regs, accumulated, n);
-    regs[i] = v;
-    accumulated[i] = false;
-}
 
-// R1 to R15.
-pub fn normalise_all(regs: &mut [u64; 16], accumulated: &mut [bool; 16])
-    ensures { Becomes (normalise_to 15) regs.old accumulated.old regs.new accumulated.new }
-{
-    let mut k: u8 = 0;
-    while k < 15 {
-        k += 1;
-        normalise(regs, accumulated, k);
+    pub fn high_at(&self, n: u8) -> u64
+        ensures { (result ≡ high_of (holds self.now n)) × (result < 2 ^ 34) }
+    {
+        let i = (n % 16) as usize;
+        high_of(self.accumulated[i], self.values[i])
+    }
+
+    pub fn bound_at(&self, n: u8) -> u8
+        ensures { result ≡ noted self.now n }
+    {
+        let i = (n % 16) as usize;
+        self.bounds[i]
+    }
+
+    // Whether the register is accumulated.
+    pub fn waits_at(&self, n: u8) -> bool
+        ensures { result ≡ get_or self.now.accumulated (n % 16) false }
+    {
+        let i = (n % 16) as usize;
+        self.accumulated[i]
+    }
+
+    // Keeps `v`, whole or as limbs, with its bound. R0 ignores it.
+    #[tactic(auto, using(crate::proofs::Files::place_none, crate::proofs::Files::place_set))]
+    pub fn write(&mut self, rd: u8, v: u64, waits: bool, bound: u8)
+        ensures { self.new ≡ place (rd % 16) v waits bound self.old }
+    {
+        let i = (rd % 16) as usize;
+        if i == 0 {
+            return;
+        }
+        self.values[i] = v;
+        self.accumulated[i] = waits;
+        self.bounds[i] = bound;
+    }
+
+    // A normalised register is whole, and keeps its bound.
+    pub fn normalise(&mut self, n: u8)
+        ensures { self.new ≡ normalise n self.old }
+    {
+        let i = (n % 16) as usize;
+        if i == 0 {
+            return;
+        }
+        let v = self.value_at(n);
+        self.values[i] = v;
+        self.accumulated[i] = false;
+    }
+
+    // R1 to R15.
+    pub fn normalise_all(&mut self)
+        ensures { self.new ≡ normalise_to 15 self.old }
+    {
+        for k in 0..15 {
+            self.normalise(k + 1);
+        }
     }
 }
