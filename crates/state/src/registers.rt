@@ -113,7 +113,7 @@ impl Registers {
     pub fn normalise_all(&mut self)
         ensures { self.new ≡ normalise_to 15 self.old }
     {
-        for k in 0..15 {
+        for k in 0..15u8 {
             self.normalise(k + 1);
         }
     }
