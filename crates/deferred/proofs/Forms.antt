@@ -12,7 +12,8 @@ use Rattle.opcode.proofs.Variants.{place, all-at}
 use Rattle.instruction.specs.Operands.{built, instruction_of}
 use Rattle.instruction.specs.declared.Parts.{Parts}
 use Rattle.instruction.specs.declared.Instruction.TheVariants.{Sub, Ecall}
-use Rattle.state.specs.Registers.{Registers, normalise}
+use Rattle.state.specs.declared.registers.Registers.{Registers}
+use Rattle.state.specs.Registers.{normalise}
 use Rattle.effect.specs.Notes.{Notes}
 use Rattle.effect.specs.Tables.{is_registers, is_immediate}
 use Rattle.deferred.specs.Limbs.{added, added_imm, limbed, limbs, limbs_if}
