@@ -11,7 +11,8 @@ use Rattle.memory.specs.declared.Stored.{Stored}
 use Rattle.memory.specs.declared.Stored.TheVariants as S
 use Rattle.memory.specs.declared.Size.{Size}
 use Rattle.state.specs.Held.{value_of}
-use Rattle.state.specs.Registers.{Registers, holds, noted}
+use Rattle.state.specs.declared.registers.Registers.{Registers}
+use Rattle.state.specs.Registers.{holds, noted}
 use Rattle.effect.specs.Operations.{plus64, divided, result, register_form, moves, taken, load_size, loaded, store_size}
 use Rattle.effect.specs.Notes.{Notes}
 use Rattle.instruction.specs.declared.Instruction.{Instruction}
