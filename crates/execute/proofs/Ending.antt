@@ -13,7 +13,8 @@ use Rattle.memory.specs.declared.Size.{Size}
 use Rattle.memory.specs.declared.Stored.{Stored}
 use Rattle.memory.specs.declared.Stored.TheVariants as M
 use Rattle.state.specs.Held.{Whole}
-use Rattle.state.specs.Registers.{Registers, put, place}
+use Rattle.state.specs.declared.registers.Registers.{Registers}
+use Rattle.state.specs.Registers.{put, place}
 use Rattle.effect.specs.Outcomes.{Refuses}
 use Rattle.effect.specs.Outcomes as G
 use Rattle.effect.specs.Effects.{writing, goes_to, stores_at, on_storable}

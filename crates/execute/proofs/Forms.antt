@@ -27,7 +27,8 @@ use Rattle.instruction.specs.declared.Parts.{Parts}
 use Rattle.words.specs.Words.{apart_of, found_apart, take_in, decoded_of, decode_in}
 use Rattle.words.specs.declared.Taken.{Taken}
 use Rattle.words.proofs.Steps.{apart-refused, apart-made}
-use Rattle.state.specs.Registers.{Registers, holds, normalise}
+use Rattle.state.specs.declared.registers.Registers.{Registers}
+use Rattle.state.specs.Registers.{holds, normalise}
 use Rattle.state.specs.Held.{value_of}
 use Rattle.state.specs.Registers as Rg
 use Rattle.effect.specs.Notes.{Notes, document_notes}

@@ -1,7 +1,8 @@
 -- Inner: what the functions of the forms promise.
 use Rattle.std.specs.Prelude.{ℕ, ◌≡◌, List}
 use Rattle.pending.specs.Pending.{checks_of}
-use Rattle.state.specs.Registers.{Registers, normalise}
+use Rattle.state.specs.declared.registers.Registers.{Registers}
+use Rattle.state.specs.Registers.{normalise}
 use Rattle.instruction.specs.declared.Instruction.{Instruction}
 use Rattle.words.specs.declared.Decoded.{Decoded}
 use Rattle.effect.specs.Outcomes.{Outcome}

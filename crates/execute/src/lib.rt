@@ -2,14 +2,13 @@
 #![tactic(auto)]
 
 ghost use Rattle.std.specs.Prelude.{◌≡◌};
-ghost use Rattle.state.specs.Registers.{registers};
 ghost use Rattle.pending.specs.declared.Checks.TheVariants.{Nothing};
 ghost use Rattle.execute.specs.Execute.{admits};
 ghost use Rattle.execute.specs.declared.Went.TheVariants as W;
 
 use pending::{Checks, Room};
 use refusal::Refusal;
-use state::formed;
+use state::registers::Registers;
 
 mod alone; // alone.rt: Ecall and Ebreak
 mod branch; // branch.rt: the branches
@@ -71,19 +70,14 @@ pub fn refuse(start: Start, r: Refusal) -> Advance
 }
 
 // Whether the mode takes such registers: well-formed ones, and in the plain mode none that is accumulated.
-pub fn admits<'a>(
-    mode: Mode,
-    regs: &'a [u64; 16],
-    accumulated: &'a [bool; 16],
-    bounds: &'a [u8; 16],
-) -> bool
-    ensures { result ≡ admits mode (registers regs.now accumulated.now bounds.now) }
+pub fn admits(mode: Mode, registers: &Registers) -> bool
+    ensures { result ≡ admits mode registers.now }
 {
-    if !formed::well_formed(regs, accumulated, bounds) {
+    if !registers.well_formed() {
         return false;
     }
     match mode {
-        Mode::Plain => formed::all_whole(accumulated),
+        Mode::Plain => registers.all_whole(),
         Mode::Deferred => true,
     }
 }

@@ -12,7 +12,7 @@ pub returns-else-lacks : goal.returns-else-lacks
 returns-else-lacks c = λ m. rw (c.checked.ensures, c.in-Checks.is) (went-checks _ _ _ _ _ _ _ _ (sym c.lacks.ensures ∙ c.if-lacks.false) c.put-in-Checks.ensures)
 
 pub returns-in-Passes : goal.returns-in-Passes
-returns-in-Passes c = λ m. rw (c.onward-in-Passes.ensures, c.in-Passes.is, c.settle_two.ensures _) (went_to _ _ _ _)
+returns-in-Passes c = λ m. rw (c.onward-in-Passes.ensures, c.in-Passes.is, c.settle_two.ensures) (went_to _ _ _ _)
 
 pub returns-in-Refuses : goal.returns-in-Refuses
 returns-in-Refuses c = λ m. rw (c.refuse-in-Refuses.ensures, c.in-Refuses.is) (went-refused _ _ _ _)
