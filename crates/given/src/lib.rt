@@ -39,22 +39,20 @@ fn malformed(s: State) -> Executed
 fn execute_word(choices: Choices, word: u32, s: State, m: &mut [u8]) -> Executed
     ensures { executed result m.new ≡ obey choices.mode Unlent (rules_of choices) (decode_in (rules_of choices).number word) (world_of s m.old) }
 {
-    let mut regs = s.regs;
-    let mut accumulated = s.accumulated;
-    let mut bounds = s.bounds;
+    let mut registers = s.registers;
     let start = Start {
         choices,
         room: Room::Unlent,
         pc: s.pc,
         halted: s.halted,
     };
-    let a = obey(start, word, &mut regs, &mut accumulated, &mut bounds, m);
+    let a = obey(start, word, &mut registers, m);
     let went = a.went;
     let checks = a.checks;
     Executed {
         went,
         checks,
-        state: state::together(a.pc, a.halted, regs, accumulated, bounds),
+        state: state::together(a.pc, a.halted, registers),
     }
 }
 
@@ -63,7 +61,7 @@ pub fn execute(choices: Choices, i: Instruction, s: State, m: &mut [u8]) -> Exec
     ensures { executed result m.new ≡ execute_one choices.mode (rules_of choices).notes i (world_of s m.old) }
 {
     let mode = choices.mode;
-    if !admits(mode, &s.regs, &s.accumulated, &s.bounds) {
+    if !admits(mode, &s.registers) {
         return malformed(s);
     }
     match words::encode(i) {
