@@ -1,7 +1,6 @@
 // A leg of a run: the one loop over which all runs go. It has no list in it: the checks that end it are given back, for a caller
 // that lists them.
 ghost use Rattle.std.specs.Prelude.{◌≡◌, ◌&&◌, ◌≤◌};
-ghost use Rattle.state.specs.Registers.{registers};
 ghost use Rattle.pending.specs.Pending.{checks_of};
 ghost use Rattle.execute.specs.World.{world_of};
 ghost use Rattle.execute.specs.Rules.{rules_of};
@@ -13,6 +12,7 @@ use execute::{Advance, Choices, Start, Went, word};
 use memory::Fetched;
 use pending::{Checks, Room};
 use state::State;
+use state::registers::Registers;
 
 // How the last step went, the steps, the checks that the last one asks for, and its pc.
 #[derive(Clone, Copy)]
@@ -69,17 +69,11 @@ fn passes(went: Went, checks: Checks, room: Room) -> bool
 }
 
 // One step over lent registers and memory.
-fn step_in(
-    start: Start,
-    regs: &mut [u64; 16],
-    accumulated: &mut [bool; 16],
-    bounds: &mut [u8; 16],
-    m: &mut [u8],
-) -> Advance
-    ensures { advanced result (registers regs.new accumulated.new bounds.new) m.new ≡ step_in start.choices.mode start.room (rules_of start.choices) (started start (registers regs.old accumulated.old bounds.old) m.old) }
+fn step_in(start: Start, registers: &mut Registers, m: &mut [u8]) -> Advance
+    ensures { advanced result registers.new m.new ≡ step_in start.choices.mode start.room (rules_of start.choices) (started start registers.old m.old) }
 {
     match memory::fetch(m, start.pc) {
-        Fetched::Word(word) => word::obey(start, word, regs, accumulated, bounds, m),
+        Fetched::Word(word) => word::obey(start, word, registers, m),
         Fetched::Refused(r) => execute::refuse(start, r),
     }
 }
@@ -88,9 +82,7 @@ fn step_in(
 pub fn advance(choices: Choices, room: Room, s: State, fuel: u64, m: &mut [u8]) -> Gone
     ensures { gone result m.new ≡ leg_in fuel choices.mode room (rules_of choices) (world_of s m.old) }
 {
-    let mut regs = s.regs;
-    let mut accumulated = s.accumulated;
-    let mut bounds = s.bounds;
+    let mut registers = s.registers;
     let mut pc = s.pc;
     let mut halted = s.halted;
     let mut n: u64 = 0;
@@ -101,7 +93,7 @@ pub fn advance(choices: Choices, room: Room, s: State, fuel: u64, m: &mut [u8]) 
             pc,
             halted,
         };
-        let a = step_in(start, &mut regs, &mut accumulated, &mut bounds, m);
+        let a = step_in(start, &mut registers, m);
         let went = a.went;
         let checks = a.checks;
         if !passes(went, checks, room) {
@@ -111,7 +103,7 @@ pub fn advance(choices: Choices, room: Room, s: State, fuel: u64, m: &mut [u8]) 
                 steps,
                 checks,
                 pc,
-                state: state::together(a.pc, a.halted, regs, accumulated, bounds),
+                state: state::together(a.pc, a.halted, registers),
             };
         }
         pc = a.pc;
@@ -123,6 +115,6 @@ pub fn advance(choices: Choices, room: Room, s: State, fuel: u64, m: &mut [u8]) 
         steps: n,
         checks: Checks::Nothing,
         pc,
-        state: state::together(pc, halted, regs, accumulated, bounds),
+        state: state::together(pc, halted, registers),
     }
 }
