@@ -10,7 +10,6 @@ use lib.Seq.{set_out}
 use native.Mathlib.Omega.{arith}
 use borrow.Author.Tests.{eq-eqb}
 use Rattle.refusal.specs.Stops.{refusal_of}
-use Rattle.state.specs.Formed.{registers_of}
 use Rattle.state.specs.declared.State.{State}
 use Rattle.execute.specs.World.{world_of}
 use Rattle.execute.specs.Execute.{admits}
@@ -54,9 +53,9 @@ module _ (pc room n : ℕ) where
 -- the tests of an entry, of a list of the room
 module _ (c : Choices) (s : State) (room n : ℕ) where
   abbrev taken : Bool
-  taken = admits c.mode (registers_of s) && (eqb room room && eqb room room && leb n room)
+  taken = admits c.mode s.registers && (eqb room room && eqb room room && leb n room)
 
-  entry : (l : List Pending) → length l ≡ room → taken ≡ (admits c.mode (registers_of s) && lists_fit (listed n l))
+  entry : (l : List Pending) → length l ≡ room → taken ≡ (admits c.mode s.registers && lists_fit (listed n l))
   entry l e = rw (fits-is n l, e, eq-eqb room room refl)
 
   pub steps-malformed : (m : List ℕ) → taken ≡ false
