@@ -6,8 +6,7 @@ ghost use Rattle.state.specs.Formed.{fresh_at};
 
 use registers::Registers;
 
-pub mod formed; // formed.rt: the registers that refusal 9 turns away
-pub mod registers; // registers.rt: the registers
+pub mod registers; // registers.rt: the sixteen registers
 
 #[derive(Clone, Copy)]
 pub struct State {
