@@ -6,7 +6,8 @@ use Rattle.refusal.specs.declared.Refusal.{Refusal}
 use Rattle.memory.specs.Memory.{fetch_of}
 use Rattle.memory.specs.declared.Fetched.{Fetched}
 use Rattle.memory.specs.declared.Fetched.TheVariants as F
-use Rattle.state.specs.Registers.{Registers, holds}
+use Rattle.state.specs.declared.registers.Registers.{Registers}
+use Rattle.state.specs.Registers.{holds}
 use Rattle.effect.specs.Notes.{Notes}
 use Rattle.deferred.specs.Limbs.{Limbed, limbed, added, added_imm, covers, subtracted, limbs}
 use Rattle.words.specs.Words.{decode_in}

@@ -16,7 +16,8 @@ use Rattle.memory.specs.declared.Stored.{Stored}
 use Rattle.memory.specs.declared.Stored.TheVariants as S
 use Rattle.memory.proofs.Numbers.{Small}
 use Rattle.state.specs.Held.{Held, Whole, Limbs, low_of, high_of, value_of, held_of, kept}
-use Rattle.state.specs.Registers.{Registers, holds, noted, place, put, normalise}
+use Rattle.state.specs.declared.registers.Registers.{Registers}
+use Rattle.state.specs.Registers.{holds, noted, place, put, normalise}
 use Rattle.state.proofs.Normal.{settled-whole}
 use Rattle.effect.specs.Notes.{Notes}
 use Rattle.effect.specs.Operations.{plus64, register_form, moves, load_size, store_size}
@@ -167,10 +168,10 @@ in-bits pc halted R m p h s =
       state =
           record {
             pc-fits = p;
-            regs_long = h.values-long;
+            values_long = h.values-long;
             accumulated-long = h.marks-long;
             bounds-long = h.bounds-long;
-            reg-fits = h.value-fits;
+            value-fits = h.value-fits;
             bound-fits = h.bound-fits;
           };
       bytes = s;
@@ -179,10 +180,10 @@ in-bits pc halted R m p h s =
 wide : (w : World) → InBits w → Wide w.registers
 wide w h =
     record {
-      values-long = h.state.regs_long;
+      values-long = h.state.values_long;
       marks-long = h.state.accumulated-long;
       bounds-long = h.state.bounds-long;
-      value-fits = h.state.reg-fits;
+      value-fits = h.state.value-fits;
       bound-fits = h.state.bound-fits;
     }
 

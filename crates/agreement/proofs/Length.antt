@@ -8,7 +8,7 @@ use Rattle.memory.specs.Bytes.{bytes}
 use Rattle.memory.specs.Memory.{size_of, on_stored, store_of}
 use Rattle.memory.specs.declared.Stored.{Stored}
 use Rattle.memory.specs.declared.Stored.TheVariants as S
-use Rattle.state.specs.Registers.{Registers}
+use Rattle.state.specs.declared.registers.Registers.{Registers}
 use Rattle.effect.specs.Notes.{Notes}
 use Rattle.effect.specs.Outcomes.{Stores, Nothing, Bytes, Outcome, Does, Refuses}
 use Rattle.instruction.specs.declared.Instruction.{Instruction}

@@ -23,7 +23,7 @@ use Rattle.words.specs.Words.{decode_in}
 use Rattle.words.proofs.Refused.{decoded-refused}
 use Rattle.words.specs.declared.Decoded.{Decoded}
 use Rattle.words.specs.declared.Decoded.TheVariants as D
-use Rattle.state.specs.Registers.{Registers}
+use Rattle.state.specs.declared.registers.Registers.{Registers}
 use Rattle.effect.specs.Operations.{plus64, moves, load_size, store_size}
 use Rattle.effect.specs.Notes.{Notes}
 use Rattle.effect.specs.Effects.{Seen, seen, dividing, moving, on_loaded, on_storable, loading, storing, effect}

@@ -6,7 +6,7 @@ use mathlib.Core.List.{List, []}
 use native.Mathlib.Omega.{arith}
 use lib.ListN.{length}
 use Rattle.refusal.specs.declared.Refusal.{Refusal}
-use Rattle.state.specs.Registers.{Registers}
+use Rattle.state.specs.declared.registers.Registers.{Registers}
 use Rattle.words.specs.Words.{fits_of}
 use Rattle.effect.specs.Outcomes.{Goes, Outcome, Does, Refuses}
 use Rattle.effect.specs.Outcomes as G

@@ -10,7 +10,8 @@ use Rattle.memory.specs.Memory.{fetch_of}
 use Rattle.memory.specs.declared.Fetched.{Fetched}
 use Rattle.memory.specs.declared.Fetched.TheVariants as F
 use Rattle.state.specs.Held.{value_of}
-use Rattle.state.specs.Registers.{Registers, holds}
+use Rattle.state.specs.declared.registers.Registers.{Registers}
+use Rattle.state.specs.Registers.{holds}
 use Rattle.state.specs.Formed.{well_formed, all_whole}
 use Rattle.state.proofs.Normal.{whole-limbs}
 use Rattle.words.specs.Words.{decode_in}

@@ -8,7 +8,8 @@ use lib.Dec.{ltb}
 use native.Mathlib.Omega.{arith}
 use borrow.Author.Tests.{ltb-true, eq-eqb, le-leb}
 use Rattle.state.specs.Held.{Whole, kept, waits}
-use Rattle.state.specs.Registers.{Registers, place, put}
+use Rattle.state.specs.declared.registers.Registers.{Registers}
+use Rattle.state.specs.Registers.{place, put}
 use Rattle.state.specs.Formed.{all_below, all_whole}
 use Rattle.effect.specs.Notes.{Notes}
 use Rattle.instruction.specs.declared.Instruction.{Instruction}
