@@ -23,7 +23,7 @@ use state::registers;
 
 fn carry(
     start: Start,
-    turn: Turn,
+    turn: Result<Turn, Refusal>,
     p: Parts,
     regs: &mut [u64; 16],
     accumulated: &mut [bool; 16],
@@ -32,7 +32,7 @@ fn carry(
     ensures { Always (carried start (turn_outcome p.a turn) (registers regs.old accumulated.old bounds.old) (settle_two start.choices.mode p.b 0 (registers regs.old accumulated.old bounds.old))) result (registers regs.new accumulated.new bounds.new) }
 {
     match turn {
-        Turn::Writes { next, bound, value } => {
+        Ok(Turn { next, bound, value }) => {
             let choices = start.choices;
             let mode = choices.mode;
             let w = Write {
@@ -43,7 +43,7 @@ fn carry(
             put(mode, p.b, 0, w, regs, accumulated, bounds);
             to(start, next)
         }
-        Turn::Refuses(r) => refuse(start, r),
+        Err(r) => refuse(start, r),
     }
 }
 
@@ -144,7 +144,7 @@ fn shifted(
 {
     let op = p.op;
     let turn = immediate::shift(op, read(start.pc, p, regs, accumulated, bounds));
-    carry(start, turn, p, regs, accumulated, bounds)
+    carry(start, Ok(turn), p, regs, accumulated, bounds)
 }
 
 pub(crate) fn obey_shift(

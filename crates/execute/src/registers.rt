@@ -1,5 +1,5 @@
 // The instructions on two registers: Add and Sub on limbs where the mode has that form, and all on whole values.
-ghost use Rattle.std.specs.Prelude.{◌≡◌};
+ghost use Rattle.std.specs.Prelude.{Some, ◌≡◌};
 ghost use Rattle.opcode.specs.Opcodes.{form_of};
 ghost use Rattle.opcode.specs.declared.Form.TheVariants as F;
 ghost use Rattle.instruction.specs.Operands.{instruction_of};
@@ -10,7 +10,7 @@ ghost use Rattle.effect.specs.Operations.{plus64};
 ghost use Rattle.effect.specs.Effects.{seen};
 ghost use Rattle.effect.specs.Tables.{deed_outcome, two_of};
 ghost use Rattle.deferred.specs.Limbs.{limbed};
-ghost use Rattle.pending.specs.declared.Checks.TheVariants.{One};
+ghost use Rattle.pending.specs.Pending.{check};
 ghost use Rattle.execute.specs.Modes.{limbs_in};
 ghost use Rattle.execute.specs.Starts.{obeyed, doing, on_whole, carried, Always, settle_two};
 ghost use Rattle.execute.specs.declared.Went.TheVariants as W;
@@ -20,24 +20,24 @@ use crate::{Advance, Mode, Start, Went, refuse};
 use effect::registers::{Deed, Operands, decide};
 use instruction::Parts;
 use opcode::{Form, Opcode};
-use pending::Checks;
+use pending::Check;
 use refusal::Refusal;
 use state::registers;
 
 fn checked(start: Start, bound: u8, value: u64) -> Advance
-    ensures { result ≡ record { went = W.On; pc = plus64 start.pc 4; halted = start.halted; checks = One bound value } }
+    ensures { result ≡ record { went = W.On; pc = plus64 start.pc 4; halted = start.halted; checks = Some (check value bound) } }
 {
     Advance {
         went: Went::On,
         pc: value::address::plus(start.pc, 4),
         halted: start.halted,
-        checks: Checks::One { bound, value },
+        checks: Some(Check { bound, value }),
     }
 }
 
 fn carry(
     start: Start,
-    deed: Deed,
+    deed: Result<Deed, Refusal>,
     p: Parts,
     regs: &mut [u64; 16],
     accumulated: &mut [bool; 16],
@@ -48,7 +48,7 @@ fn carry(
     let choices = start.choices;
     let mode = choices.mode;
     match deed {
-        Deed::Writes { bound, value } => {
+        Ok(Deed::Writes { bound, value }) => {
             let w = Write {
                 rd: p.a,
                 bound,
@@ -57,7 +57,7 @@ fn carry(
             put(mode, p.b, p.c, w, regs, accumulated, bounds);
             onward(start)
         }
-        Deed::Checks { bound, value } => {
+        Ok(Deed::Checks { bound, value }) => {
             let room = start.room;
             if pending::lacks(room, 1) {
                 return refuse(start, Refusal::ListFull { pc: start.pc });
@@ -70,11 +70,11 @@ fn carry(
             put(mode, p.b, p.c, w, regs, accumulated, bounds);
             checked(start, bound, value)
         }
-        Deed::Passes => {
+        Ok(Deed::Passes) => {
             settle_two(mode, p.b, p.c, regs, accumulated);
             onward(start)
         }
-        Deed::Refuses(r) => refuse(start, r),
+        Err(r) => refuse(start, r),
     }
 }
 

@@ -15,12 +15,11 @@ use crate::carrying::{onward, parts, settle_two};
 use crate::{Advance, Start, refuse};
 use effect::store::store_size;
 use instruction::Parts;
-use memory::Stored;
 use opcode::{Form, Opcode};
 use state::registers;
 
 // The bytes are stored, or the store is refused.
-fn stored<'a>(p: Parts, regs: &'a [u64; 16], accumulated: &'a [bool; 16], m: &mut [u8]) -> Stored
+fn stored<'a>(p: Parts, regs: &'a [u64; 16], accumulated: &'a [bool; 16], m: &mut [u8]) -> Result<(), Refusal>
     ensures { (result ≡ store_of (store_size (store_kind_of p.op)) (length m.old) (plus64 (value_of (held_at regs.now accumulated.now p.a)) p.imm)) × (m.new ≡ memory_after (store_size (store_kind_of p.op)) m.old (plus64 (value_of (held_at regs.now accumulated.now p.a)) p.imm) (value_of (held_at regs.now accumulated.now p.b))) }
 {
     let op = p.op;
@@ -41,13 +40,13 @@ fn executed(
     ensures { advanced result (registers regs.new accumulated.new bounds.new) m.new ≡ doing start (instruction_of p) (registers regs.old accumulated.old bounds.old) m.old }
 {
     match stored(p, regs, accumulated, m) {
-        Stored::Done => {
+        Ok(()) => {
             let choices = start.choices;
             let mode = choices.mode;
             settle_two(mode, p.a, p.b, regs, accumulated);
             onward(start)
         }
-        Stored::Refused(r) => refuse(start, r),
+        Err(r) => refuse(start, r),
     }
 }
 

@@ -9,7 +9,7 @@ ghost use Rattle.execute.specs.Rules.{rules_of};
 ghost use Rattle.execute.specs.Starts.{advanced, obeyed};
 
 use crate::{Advance, Start, alone, branch, immediate, jump, refuse, registers, store};
-use opcode::{Form, Found, Opcode};
+use opcode::{Form, Opcode};
 use refusal::Refusal;
 
 fn by_form(
@@ -34,7 +34,7 @@ fn by_form(
     }
 }
 
-fn opcode_at(word: u32) -> Found
+fn opcode_at(word: u32) -> Option<Opcode>
     ensures { result ≡ opcode_in opcode_number (field 0 7 word) }
 {
     opcode::opcode_of(encoding::extract_opcode(word) as u8)
@@ -51,7 +51,7 @@ pub fn obey(
     ensures { advanced result (registers regs.new accumulated.new bounds.new) m.new ≡ obeyed start (decode_in (rules_of start.choices).number word) (registers regs.old accumulated.old bounds.old) m.old }
 {
     match opcode_at(word) {
-        Found::Op(op) => by_form(start, op, word, regs, accumulated, bounds, m),
-        Found::Nothing => refuse(start, Refusal::BadOpcode { word }),
+        Some(op) => by_form(start, op, word, regs, accumulated, bounds, m),
+        None => refuse(start, Refusal::BadOpcode { word }),
     }
 }
