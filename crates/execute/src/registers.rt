@@ -1,5 +1,5 @@
 // The instructions on two registers: Add and Sub on limbs where the mode has that form, and all on whole values.
-ghost use Rattle.std.specs.Prelude.{Some, ◌≡◌};
+ghost use Rattle.std.specs.Prelude.{Ok, Some, ◌≡◌};
 ghost use Rattle.opcode.specs.Opcodes.{form_of};
 ghost use Rattle.opcode.specs.declared.Form.TheVariants as F;
 ghost use Rattle.instruction.specs.Operands.{instruction_of};
@@ -35,20 +35,20 @@ fn checked(start: Start, bound: u8, value: u64) -> Advance
     }
 }
 
-fn carry(
+fn act(
     start: Start,
-    deed: Result<Deed, Refusal>,
+    deed: Deed,
     p: Parts,
     regs: &mut [u64; 16],
     accumulated: &mut [bool; 16],
     bounds: &mut [u8; 16],
 ) -> Advance
-    ensures { Always (carried start (deed_outcome p.a start.pc deed) (registers regs.old accumulated.old bounds.old) (settle_two start.choices.mode p.b p.c (registers regs.old accumulated.old bounds.old))) result (registers regs.new accumulated.new bounds.new) }
+    ensures { Always (carried start (deed_outcome p.a start.pc (Ok deed)) (registers regs.old accumulated.old bounds.old) (settle_two start.choices.mode p.b p.c (registers regs.old accumulated.old bounds.old))) result (registers regs.new accumulated.new bounds.new) }
 {
     let choices = start.choices;
     let mode = choices.mode;
     match deed {
-        Ok(Deed::Writes { bound, value }) => {
+        Deed::Writes { bound, value } => {
             let w = Write {
                 rd: p.a,
                 bound,
@@ -57,7 +57,7 @@ fn carry(
             put(mode, p.b, p.c, w, regs, accumulated, bounds);
             onward(start)
         }
-        Ok(Deed::Checks { bound, value }) => {
+        Deed::Checks { bound, value } => {
             let room = start.room;
             if pending::lacks(room, 1) {
                 return refuse(start, Refusal::ListFull { pc: start.pc });
@@ -70,10 +70,25 @@ fn carry(
             put(mode, p.b, p.c, w, regs, accumulated, bounds);
             checked(start, bound, value)
         }
-        Ok(Deed::Passes) => {
+        Deed::Passes => {
             settle_two(mode, p.b, p.c, regs, accumulated);
             onward(start)
         }
+    }
+}
+
+fn carry(
+    start: Start,
+    deed: Result<Deed, Refusal>,
+    p: Parts,
+    regs: &mut [u64; 16],
+    accumulated: &mut [bool; 16],
+    bounds: &mut [u8; 16],
+) -> Advance
+    ensures { Always (carried start (deed_outcome p.a start.pc deed) (registers regs.old accumulated.old bounds.old) (settle_two start.choices.mode p.b p.c (registers regs.old accumulated.old bounds.old))) result (registers regs.new accumulated.new bounds.new) }
+{
+    match deed {
+        Ok(deed) => act(start, deed, p, regs, accumulated, bounds),
         Err(r) => refuse(start, r),
     }
 }

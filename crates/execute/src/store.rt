@@ -16,10 +16,16 @@ use crate::{Advance, Start, refuse};
 use effect::store::store_size;
 use instruction::Parts;
 use opcode::{Form, Opcode};
+use refusal::Refusal;
 use state::registers;
 
 // The bytes are stored, or the store is refused.
-fn stored<'a>(p: Parts, regs: &'a [u64; 16], accumulated: &'a [bool; 16], m: &mut [u8]) -> Result<(), Refusal>
+fn stored<'a>(
+    p: Parts,
+    regs: &'a [u64; 16],
+    accumulated: &'a [bool; 16],
+    m: &mut [u8],
+) -> Result<(), Refusal>
     ensures { (result ≡ store_of (store_size (store_kind_of p.op)) (length m.old) (plus64 (value_of (held_at regs.now accumulated.now p.a)) p.imm)) × (m.new ≡ memory_after (store_size (store_kind_of p.op)) m.old (plus64 (value_of (held_at regs.now accumulated.now p.a)) p.imm) (value_of (held_at regs.now accumulated.now p.b))) }
 {
     let op = p.op;
