@@ -18,7 +18,8 @@ use Rattle.execute.specs.Execute.{execute, admits}
 use Rattle.execute.specs.Rules.{Rules}
 use Rattle.execute.specs.declared.Mode.{Mode}
 use Rattle.execute.specs.declared.Mode.TheVariants.{Plain, Deferred}
-use Rattle.pending.specs.Pending.{Lists, lists, Check, lists_fit, room_of, appended, listing}
+use Rattle.pending.specs.Pending.{Lists, lists, lists_fit, room_of, appended, listing}
+use Rattle.pending.specs.declared.Check.{Check}
 use Rattle.pending.specs.declared.Room.{Room}
 use Rattle.pending.proofs.Lists.{fits-mean}
 use Rattle.step.specs.Step.{step_in, step_of}

@@ -4,7 +4,8 @@ use Rattle.state.specs.declared.State.{State}
 use Rattle.execute.specs.World.{world_of}
 use Rattle.execute.specs.Rules.{rules_of}
 use Rattle.execute.specs.declared.Choices.{Choices}
-use Rattle.pending.specs.Pending.{Check, checks_of, room_at, listing}
+use Rattle.pending.specs.Pending.{checks_of, room_at, listing}
+use Rattle.pending.specs.declared.Check.{Check}
 use Rattle.step.specs.Step.{step}
 use Rattle.step.specs.Leg.{leg_in, gone}
 use Rattle.step.specs.declared.leg.Gone.{Gone}

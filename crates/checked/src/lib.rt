@@ -13,7 +13,7 @@ ghost use Rattle.checked.specs.Inner.{NotesChecks, Steps, Begins, TurnsLeg};
 
 use checks::{Pending, note_at};
 use execute::{Choices, Went};
-use pending::{Checks, room_at};
+use pending::{Check, room_at};
 use refusal::Refusal;
 use run::legs::Going;
 use run::{Ran, legs};
@@ -70,12 +70,12 @@ fn unnoted(room: usize, count: usize) -> Noted
     }
 }
 
-fn note(checks: Checks, pc: u64, room: usize, count: usize) -> Noted
+fn note(checks: Option<Check>, pc: u64, room: usize, count: usize) -> Noted
     ensures { NotesChecks (checks_of checks) pc room count result }
 {
     match checks {
-        Checks::Nothing => unnoted(room, count),
-        Checks::One { bound, value } => {
+        None => unnoted(room, count),
+        Some(Check { bound, value }) => {
             if room <= count {
                 return unnoted(room, count);
             }

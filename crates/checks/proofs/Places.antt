@@ -1,4 +1,5 @@
 -- Where one more check is listed, from the tests that `place_for` makes.
+use Rattle.std.specs.Prelude.{Err, Ok}
 use Prim.Native.Nat.{ℕ, ◌+◌, ◌-◌, ◌<◌, ◌≤◌}
 use mathlib.Core.Path.{◌≡◌, refl, sym, ◌∙◌}
 use mathlib.Core.Bool.{true, false}
@@ -9,7 +10,6 @@ use native.Mathlib.Omega.{arith}
 use borrow.Author.Tests.{lt-ltb, le-ltb}
 use Rattle.refusal.specs.Stops.{refusal_of}
 use Rattle.pending.specs.Pending.{lists_fit, room_of, lacks}
-use Rattle.pending.specs.declared.Counted.TheVariants as N
 use Rattle.pending.proofs.Lists.{no-list, room-left, append-malformed, append-full, append-done}
 use Rattle.checks.specs.Records.{listed, with_one}
 use Rattle.checks.specs.Places.{Fits}
@@ -42,24 +42,24 @@ module _ (room n : ℕ) (p : Pending) (l : List Pending) (e : length l ≡ room)
   adds f = rw f
 
 module _ (room n : ℕ) (p : Pending) where
-  pub place-malformed : room < n → Fits room n p (record { answer = N.Refused (refusal_of 9 0); place = room })
+  pub place-malformed : room < n → Fits room n p (record { answer = Err (refusal_of 9 0); place = room })
   place-malformed h l e =
       let m = append-malformed p.value p.bound p.pc (listed n l) (not_within n l (omega arith)) in
       (m.0, stays room n p l e m.1)
 
-  pub place-more : n < room → Fits room n p (record { answer = N.Count (n + 1); place = n })
+  pub place-more : n < room → Fits room n p (record { answer = Ok (n + 1); place = n })
   place-more h l e =
       let more = listed_more n l p (omega arith) in
       let m = append-done p.value p.bound p.pc (listed n l) (fits room n p l e (omega arith)) (with-room n l (omega arith)) in
       (rw (← m.0, ← more), adds room n p l e (m.1 ∙ sym more))
 
-  pub place_none : room ≡ 0 → n ≤ room → Fits room n p (record { answer = N.Count n; place = room })
+  pub place_none : room ≡ 0 → n ≤ room → Fits room n p (record { answer = Ok n; place = room })
   place_none z h l e =
       let same = listed_same n l p (omega arith) in
       let m = append-done p.value p.bound p.pc (listed n l) (fits room n p l e h) (unlent n l (omega arith)) in
       (rw (← m.0, ← same), stays room n p l e (m.1 ∙ sym same))
 
-  pub place-full : 0 < room → n ≤ room → room ≤ n → Fits room n p (record { answer = N.Refused (refusal_of 8 p.pc); place = room })
+  pub place-full : 0 < room → n ≤ room → room ≤ n → Fits room n p (record { answer = Err (refusal_of 8 p.pc); place = room })
   place-full z h g l e =
       let m = append-full p.value p.bound p.pc (listed n l) (fits room n p l e h) (without n l (omega arith) (omega arith)) in
       (m.0, stays room n p l e m.1)

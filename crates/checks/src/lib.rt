@@ -6,7 +6,7 @@ ghost use Rattle.pending.specs.Pending.{empty_answer, empty_lists, entry_at};
 ghost use Rattle.checks.specs.Records.{listed, answer_to, with_one};
 ghost use Rattle.checks.specs.Places.{Fits};
 
-use pending::{Counted, Entry};
+use pending::Entry;
 use refusal::Refusal;
 
 #[repr(C)]
@@ -20,7 +20,7 @@ pub struct Pending {
 // Where a check is to be listed, which is beyond the list where none is, and the answer.
 #[derive(Clone, Copy)]
 struct Placed {
-    answer: Counted,
+    answer: Result<usize, Refusal>,
     place: usize,
 }
 
@@ -39,30 +39,30 @@ fn place_for(room: usize, count: usize, p: Pending) -> Placed
 {
     if room < count {
         return Placed {
-            answer: Counted::Refused(Refusal::Malformed),
+            answer: Err(Refusal::Malformed),
             place: room,
         };
     }
     if count < room {
         return Placed {
-            answer: Counted::Count(count + 1),
+            answer: Ok(count + 1),
             place: count,
         };
     }
     if room == 0 {
         return Placed {
-            answer: Counted::Count(count),
+            answer: Ok(count),
             place: room,
         };
     }
     Placed {
-        answer: Counted::Refused(Refusal::ListFull { pc: p.pc }),
+        answer: Err(Refusal::ListFull { pc: p.pc }),
         place: room,
     }
 }
 
 // Lists one check. Where no list is lent, none is listed and nothing refused.
-pub fn append(list: &mut [Pending], count: usize, p: Pending) -> Counted
+pub fn append(list: &mut [Pending], count: usize, p: Pending) -> Result<usize, Refusal>
     ensures { (result ≡ answer_to p count list.old) × (listed (with_one p count list.old).count list.new ≡ with_one p count list.old) }
 {
     let r = place_for(list.len(), count, p);
@@ -71,28 +71,24 @@ pub fn append(list: &mut [Pending], count: usize, p: Pending) -> Counted
 }
 
 // Empties the list: the count is 0 then, and the records stay.
-pub fn empty(list: &mut [Pending], count: usize) -> Counted
+pub fn empty(list: &mut [Pending], count: usize) -> Result<usize, Refusal>
     ensures { (result ≡ empty_answer (listed count list.old)) × (listed (empty_lists (listed count list.old)).count list.new ≡ empty_lists (listed count list.old)) }
 {
     if list.len() < count {
-        return Counted::Refused(Refusal::Malformed);
+        return Err(Refusal::Malformed);
     }
-    Counted::Count(0)
+    Ok(0)
 }
 
-pub fn read(list: &[Pending], count: usize, at: usize) -> Entry
+pub fn read(list: &[Pending], count: usize, at: usize) -> Result<Option<Entry>, Refusal>
     ensures { result ≡ entry_at at (listed count list.now) }
 {
-    if list.len() < count {
-        return Entry::Refused(Refusal::Malformed);
+    if count <= list.len() {
+        if count <= at {
+            return Ok(None);
+        }
+        let Pending { value, bound, pc } = list[at];
+        return Ok(Some(Entry { value, bound, pc }));
     }
-    if count <= at {
-        return Entry::Nothing;
-    }
-    let p = list[at];
-    Entry::Check {
-        value: p.value,
-        bound: p.bound,
-        pc: p.pc,
-    }
+    Err(Refusal::Malformed)
 }

@@ -3,7 +3,7 @@
 #![tactic(auto)]
 
 use refusal::Stop;
-use state::{State, registers};
+use state::State;
 use std::io;
 use std::io::Read;
 
@@ -35,10 +35,8 @@ fn print_register(rt: &impl Print, n: u8, value: u64) -> io::Result<()> {
 
 // The registers whose value is not zero, upwards.
 pub fn print_registers(rt: &impl Print, s: State) -> io::Result<()> {
-    let regs = s.regs;
-    let accumulated = s.accumulated;
     for n in 0..16u8 {
-        print_register(rt, n, registers::value_at(&regs, &accumulated, n))?;
+        print_register(rt, n, s.registers.value_at(n))?;
     }
     Ok(())
 }

@@ -11,7 +11,8 @@ use Rattle.effect.specs.Outcomes.{Goes, Stores, Nothing, Bytes, Effect, Outcome,
 use Rattle.effect.specs.Outcomes as G
 use Rattle.execute.specs.declared.Went.{Went}
 use Rattle.execute.specs.declared.Went.TheVariants as W
-use Rattle.pending.specs.Pending.{Check, check, lacks}
+use Rattle.pending.specs.Pending.{check, lacks}
+use Rattle.pending.specs.declared.Check.{Check}
 use Rattle.pending.specs.declared.Room.{Room}
 
 pub record World : Type 0 where

@@ -1,17 +1,16 @@
 // Ecall and Ebreak.
-ghost use Rattle.std.specs.Prelude.{◌≡◌, true};
+ghost use Rattle.std.specs.Prelude.{None, ◌≡◌, true};
 ghost use Rattle.opcode.specs.Opcodes.{form_of};
 ghost use Rattle.opcode.specs.declared.Form.TheVariants as F;
 ghost use Rattle.instruction.specs.declared.Instruction.TheVariants.{Ecall};
 ghost use Rattle.words.specs.Words.{apart_of, decoded_of};
-ghost use Rattle.pending.specs.declared.Checks.TheVariants.{Nothing};
 ghost use Rattle.execute.specs.Modes.{settle_sources};
 ghost use Rattle.execute.specs.declared.Went.TheVariants as W;
 ghost use Rattle.execute.specs.Starts.{obeyed, doing, Always};
 
 use crate::{Advance, Mode, Start, Went, refuse};
 use opcode::{Form, Opcode};
-use pending::Checks;
+use pending::Check;
 use refusal::Refusal;
 use state::registers::Registers;
 
@@ -34,18 +33,18 @@ fn call(start: Start, registers: &mut Registers) -> Advance
         went: Went::Ecall,
         pc: value::address::plus(start.pc, 4),
         halted: start.halted,
-        checks: Checks::Nothing,
+        checks: None,
     }
 }
 
 fn halt(start: Start) -> Advance
-    ensures { result ≡ record { went = W.Ebreak; pc = start.pc; halted = true; checks = Nothing } }
+    ensures { result ≡ record { went = W.Ebreak; pc = start.pc; halted = true; checks = None } }
 {
     Advance {
         went: Went::Ebreak,
         pc: start.pc,
         halted: true,
-        checks: Checks::Nothing,
+        checks: None,
     }
 }
 

@@ -1,10 +1,9 @@
 // What the forms share: how a step ends, and what it does to the registers.
-ghost use Rattle.std.specs.Prelude.{◌≡◌, ◌%◌};
+ghost use Rattle.std.specs.Prelude.{None, ◌≡◌, ◌%◌};
 ghost use Rattle.encoding.specs.Fields.{field};
 ghost use Rattle.state.specs.Held.{Whole};
 ghost use Rattle.state.specs.Registers.{put};
 ghost use Rattle.effect.specs.Operations.{plus64};
-ghost use Rattle.pending.specs.declared.Checks.TheVariants.{Nothing};
 ghost use Rattle.execute.specs.Starts.{settle_two};
 ghost use Rattle.execute.specs.declared.Went.TheVariants as W;
 
@@ -12,7 +11,7 @@ use crate::{Advance, Mode, Start, Went};
 use encoding::fields;
 use instruction::Parts;
 use opcode::Opcode;
-use pending::Checks;
+use pending::Check;
 use state::registers::Registers;
 
 fn register(x: u32) -> u8
@@ -34,18 +33,18 @@ pub(crate) fn parts(op: Opcode, word: u32, imm: u64) -> Parts
 }
 
 pub(crate) fn to(start: Start, next: u64) -> Advance
-    ensures { result ≡ record { went = W.On; pc = next; halted = start.halted; checks = Nothing } }
+    ensures { result ≡ record { went = W.On; pc = next; halted = start.halted; checks = None } }
 {
     Advance {
         went: Went::On,
         pc: next,
         halted: start.halted,
-        checks: Checks::Nothing,
+        checks: None,
     }
 }
 
 pub(crate) fn onward(start: Start) -> Advance
-    ensures { result ≡ record { went = W.On; pc = plus64 start.pc 4; halted = start.halted; checks = Nothing } }
+    ensures { result ≡ record { went = W.On; pc = plus64 start.pc 4; halted = start.halted; checks = None } }
 {
     to(start, value::address::plus(start.pc, 4))
 }

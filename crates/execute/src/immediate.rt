@@ -20,11 +20,11 @@ use opcode::{Form, Opcode};
 use refusal::Refusal;
 use state::registers::Registers;
 
-fn carry(start: Start, turn: Turn, p: Parts, registers: &mut Registers) -> Advance
+fn carry(start: Start, turn: Result<Turn, Refusal>, p: Parts, registers: &mut Registers) -> Advance
     ensures { Always (carried start (turn_outcome p.a turn) registers.old (settle_two start.choices.mode p.b 0 registers.old)) result registers.new }
 {
     match turn {
-        Turn::Writes { next, bound, value } => {
+        Ok(Turn { next, bound, value }) => {
             let choices = start.choices;
             let mode = choices.mode;
             let w = Write {
@@ -35,7 +35,7 @@ fn carry(start: Start, turn: Turn, p: Parts, registers: &mut Registers) -> Advan
             put(mode, p.b, 0, w, registers);
             to(start, next)
         }
-        Turn::Refuses(r) => refuse(start, r),
+        Err(r) => refuse(start, r),
     }
 }
 
@@ -102,7 +102,7 @@ fn shifted(start: Start, p: Parts, registers: &mut Registers) -> Advance
 {
     let op = p.op;
     let turn = immediate::shift(op, read(start.pc, p, registers));
-    carry(start, turn, p, registers)
+    carry(start, Ok(turn), p, registers)
 }
 
 pub(crate) fn obey_shift(start: Start, op: Opcode, word: u32, registers: &mut Registers) -> Advance

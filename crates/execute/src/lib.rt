@@ -1,12 +1,11 @@
 // A word obeyed, in the plain mode and in the deferred one.
 #![tactic(auto)]
 
-ghost use Rattle.std.specs.Prelude.{◌≡◌};
-ghost use Rattle.pending.specs.declared.Checks.TheVariants.{Nothing};
+ghost use Rattle.std.specs.Prelude.{None, ◌≡◌};
 ghost use Rattle.execute.specs.Execute.{admits};
 ghost use Rattle.execute.specs.declared.Went.TheVariants as W;
 
-use pending::{Checks, Room};
+use pending::{Check, Room};
 use refusal::Refusal;
 use state::registers::Registers;
 
@@ -54,18 +53,18 @@ pub struct Advance {
     pub went: Went,
     pub pc: u64,
     pub halted: bool,
-    pub checks: Checks,
+    pub checks: Option<Check>,
 }
 
 // A step that is refused leaves everything as it was.
 pub fn refuse(start: Start, r: Refusal) -> Advance
-    ensures { result ≡ record { went = W.Refused r; pc = start.pc; halted = start.halted; checks = Nothing } }
+    ensures { result ≡ record { went = W.Refused r; pc = start.pc; halted = start.halted; checks = None } }
 {
     Advance {
         went: Went::Refused(r),
         pc: start.pc,
         halted: start.halted,
-        checks: Checks::Nothing,
+        checks: None,
     }
 }
 

@@ -1,5 +1,5 @@
 // The instructions on two registers: Add and Sub on limbs where the mode has that form, and all on whole values.
-ghost use Rattle.std.specs.Prelude.{◌≡◌};
+ghost use Rattle.std.specs.Prelude.{Ok, Some, ◌≡◌};
 ghost use Rattle.opcode.specs.Opcodes.{form_of};
 ghost use Rattle.opcode.specs.declared.Form.TheVariants as F;
 ghost use Rattle.instruction.specs.Operands.{instruction_of};
@@ -9,7 +9,7 @@ ghost use Rattle.effect.specs.Operations.{plus64};
 ghost use Rattle.effect.specs.Effects.{seen};
 ghost use Rattle.effect.specs.Tables.{deed_outcome, two_of};
 ghost use Rattle.deferred.specs.Limbs.{limbed};
-ghost use Rattle.pending.specs.declared.Checks.TheVariants.{One};
+ghost use Rattle.pending.specs.Pending.{check};
 ghost use Rattle.execute.specs.Modes.{limbs_in};
 ghost use Rattle.execute.specs.Starts.{obeyed, doing, on_whole, carried, Always, settle_two};
 ghost use Rattle.execute.specs.declared.Went.TheVariants as W;
@@ -19,23 +19,23 @@ use crate::{Advance, Mode, Start, Went, refuse};
 use effect::registers::{Deed, Operands, decide};
 use instruction::Parts;
 use opcode::{Form, Opcode};
-use pending::Checks;
+use pending::Check;
 use refusal::Refusal;
 use state::registers::Registers;
 
 fn checked(start: Start, bound: u8, value: u64) -> Advance
-    ensures { result ≡ record { went = W.On; pc = plus64 start.pc 4; halted = start.halted; checks = One bound value } }
+    ensures { result ≡ record { went = W.On; pc = plus64 start.pc 4; halted = start.halted; checks = Some (check value bound) } }
 {
     Advance {
         went: Went::On,
         pc: value::address::plus(start.pc, 4),
         halted: start.halted,
-        checks: Checks::One { bound, value },
+        checks: Some(Check { bound, value }),
     }
 }
 
-fn carry(start: Start, deed: Deed, p: Parts, registers: &mut Registers) -> Advance
-    ensures { Always (carried start (deed_outcome p.a start.pc deed) registers.old (settle_two start.choices.mode p.b p.c registers.old)) result registers.new }
+fn act(start: Start, deed: Deed, p: Parts, registers: &mut Registers) -> Advance
+    ensures { Always (carried start (deed_outcome p.a start.pc (Ok deed)) registers.old (settle_two start.choices.mode p.b p.c registers.old)) result registers.new }
 {
     let choices = start.choices;
     let mode = choices.mode;
@@ -66,7 +66,15 @@ fn carry(start: Start, deed: Deed, p: Parts, registers: &mut Registers) -> Advan
             settle_two(mode, p.b, p.c, registers);
             onward(start)
         }
-        Deed::Refuses(r) => refuse(start, r),
+    }
+}
+
+fn carry(start: Start, deed: Result<Deed, Refusal>, p: Parts, registers: &mut Registers) -> Advance
+    ensures { Always (carried start (deed_outcome p.a start.pc deed) registers.old (settle_two start.choices.mode p.b p.c registers.old)) result registers.new }
+{
+    match deed {
+        Ok(deed) => act(start, deed, p, registers),
+        Err(r) => refuse(start, r),
     }
 }
 

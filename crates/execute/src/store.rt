@@ -15,12 +15,12 @@ use crate::carrying::{onward, parts, settle_two};
 use crate::{Advance, Start, refuse};
 use effect::store::store_size;
 use instruction::Parts;
-use memory::Stored;
 use opcode::{Form, Opcode};
+use refusal::Refusal;
 use state::registers::Registers;
 
 // The bytes are stored, or the store is refused.
-fn stored(p: Parts, registers: &Registers, m: &mut [u8]) -> Stored
+fn stored(p: Parts, registers: &Registers, m: &mut [u8]) -> Result<(), Refusal>
     ensures { (result ≡ store_of (store_size (store_kind_of p.op)) (length m.old) (plus64 (value_of (holds registers.now p.a)) p.imm)) × (m.new ≡ memory_after (store_size (store_kind_of p.op)) m.old (plus64 (value_of (holds registers.now p.a)) p.imm) (value_of (holds registers.now p.b))) }
 {
     let op = p.op;
@@ -34,13 +34,13 @@ fn executed(start: Start, p: Parts, registers: &mut Registers, m: &mut [u8]) -> 
     ensures { advanced result registers.new m.new ≡ doing start (instruction_of p) registers.old m.old }
 {
     match stored(p, registers, m) {
-        Stored::Done => {
+        Ok(()) => {
             let choices = start.choices;
             let mode = choices.mode;
             settle_two(mode, p.a, p.b, registers);
             onward(start)
         }
-        Stored::Refused(r) => refuse(start, r),
+        Err(r) => refuse(start, r),
     }
 }
 

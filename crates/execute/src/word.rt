@@ -8,7 +8,7 @@ ghost use Rattle.execute.specs.Rules.{rules_of};
 ghost use Rattle.execute.specs.Starts.{advanced, obeyed};
 
 use crate::{Advance, Start, alone, branch, immediate, jump, refuse, registers, store};
-use opcode::{Form, Found, Opcode};
+use opcode::{Form, Opcode};
 use refusal::Refusal;
 use state::registers::Registers;
 
@@ -26,7 +26,7 @@ fn by_form(start: Start, op: Opcode, word: u32, registers: &mut Registers, m: &m
     }
 }
 
-fn opcode_at(word: u32) -> Found
+fn opcode_at(word: u32) -> Option<Opcode>
     ensures { result ≡ opcode_in opcode_number (field 0 7 word) }
 {
     opcode::opcode_of(encoding::extract_opcode(word) as u8)
@@ -36,7 +36,7 @@ pub fn obey(start: Start, word: u32, registers: &mut Registers, m: &mut [u8]) ->
     ensures { advanced result registers.new m.new ≡ obeyed start (decode_in (rules_of start.choices).number word) registers.old m.old }
 {
     match opcode_at(word) {
-        Found::Op(op) => by_form(start, op, word, registers, m),
-        Found::Nothing => refuse(start, Refusal::BadOpcode { word }),
+        Some(op) => by_form(start, op, word, registers, m),
+        None => refuse(start, Refusal::BadOpcode { word }),
     }
 }

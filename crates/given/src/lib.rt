@@ -1,11 +1,10 @@
 // One given instruction, in the plain mode and in the deferred one.
 #![tactic(auto)]
 
-ghost use Rattle.std.specs.Prelude.{◌≡◌};
+ghost use Rattle.std.specs.Prelude.{None, ◌≡◌};
 ghost use Rattle.refusal.specs.Stops.{refusal_of};
 ghost use Rattle.words.specs.Words.{decode_in};
 ghost use Rattle.pending.specs.declared.Room.TheVariants.{Unlent};
-ghost use Rattle.pending.specs.declared.Checks.TheVariants.{Nothing};
 ghost use Rattle.execute.specs.World.{world_of};
 ghost use Rattle.execute.specs.Rules.{rules_of, obey};
 ghost use Rattle.execute.specs.declared.Went.TheVariants.{Refused};
@@ -14,24 +13,23 @@ ghost use Rattle.given.specs.Given.{execute_one, executed};
 use execute::word::obey;
 use execute::{Choices, Start, Went, admits};
 use instruction::Instruction;
-use pending::{Checks, Room};
+use pending::{Check, Room};
 use refusal::Refusal;
 use state::State;
-use words::Encoded;
 
 #[derive(Clone, Copy)]
 pub struct Executed {
     pub went: Went,
-    pub checks: Checks,
+    pub checks: Option<Check>,
     pub state: State,
 }
 
 fn malformed(s: State) -> Executed
-    ensures { result ≡ record { went = Refused (refusal_of 9 0); checks = Nothing; state = s } }
+    ensures { result ≡ record { went = Refused (refusal_of 9 0); checks = None; state = s } }
 {
     Executed {
         went: Went::Refused(Refusal::Malformed),
-        checks: Checks::Nothing,
+        checks: None,
         state: s,
     }
 }
@@ -65,7 +63,7 @@ pub fn execute(choices: Choices, i: Instruction, s: State, m: &mut [u8]) -> Exec
         return malformed(s);
     }
     match words::encode(i) {
-        Encoded::Word(word) => execute_word(choices, word, s, m),
-        Encoded::Refused(_) => malformed(s),
+        Ok(word) => execute_word(choices, word, s, m),
+        Err(_) => malformed(s),
     }
 }

@@ -7,7 +7,6 @@ use Rattle.opcode.specs.Opcodes.{all, opcode_in, form_of}
 use Rattle.opcode.specs.declared.Opcode.{Opcode}
 use Rattle.opcode.specs.declared.Opcode.TheVariants as O
 use Rattle.opcode.specs.declared.Form.{Form}
-use Rattle.opcode.specs.declared.Found.{Found}
 use Rattle.opcode.proofs.Arms.{everywhere}
 use Rattle.opcode.proofs.Variants.{place, all-at}
 use Rattle.names.specs.Names.{register_text, name_of, name_key}
@@ -241,7 +240,7 @@ module _ (look : Form → List ℕ → Option ℤ) where
       let colon : eqb (head_of (skip (past is_part (name_of op ++ t)))) 58 ≡ false = ap (λ (u : List ℕ). eqb (head_of (skip u)) 58) p ∙ no-colon os h in
       starts g (name_of op) t n
       ∙ ap (λ (x : Bool). cond x (cond (nothing (skip (tail_of (skip (past is_part (name_of op ++ t)))))) (named (run_of is_part (name_of op ++ t))) wrong) (instruction_read (opcode_in name_key (key_of (run_of is_part (name_of op ++ t)))) look (past is_part (name_of op ++ t)))) colon
-      ∙ ap (λ (f : Found). instruction_read f look (past is_part (name_of op ++ t))) (ap (λ (u : List ℕ). opcode_in name_key (key_of u)) (runs (name_of op) t n a) ∙ found op)
+      ∙ ap (λ (f : Option Opcode). instruction_read f look (past is_part (name_of op ++ t))) (ap (λ (u : List ℕ). opcode_in name_key (key_of u)) (runs (name_of op) t n a) ∙ found op)
       ∙ ap (λ (vs : Option (List ℤ)). saying_of (word_for op vs)) (ap (operands_read (kinds_of (form_of op)) (look (form_of op))) p ∙ arguments-law (look (form_of op)) os h)
 
   pub line-complete : (l : Line) → line_read look (line_text l) ≡ line_saying l look

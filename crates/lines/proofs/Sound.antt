@@ -1,13 +1,11 @@
 -- Whatever is read of a line is what a line with that text says. Assumes nothing.
-use Rattle.std.proofs.Common.{◌≡◌, ℕ, zero, suc, ◌+◌, ◌-◌, ◌≤◌, Bool, true, false, cond, ◌&&◌, eqb, ltb, leb, List, [], ◌∷◌, ◌++◌, length, ℤ, pos, sym, refl, ap, ◌∙◌, subst, append_assoc, arith, le-ltb, lt-ltb, eqb-true, leb-true}
+use Rattle.std.proofs.Common.{None, Some, ◌≡◌, ℕ, zero, suc, ◌+◌, ◌-◌, ◌≤◌, Bool, true, false, cond, ◌&&◌, eqb, ltb, leb, List, [], ◌∷◌, ◌++◌, length, ℤ, pos, sym, refl, ap, ◌∙◌, subst, append_assoc, arith, le-ltb, lt-ltb, eqb-true, leb-true}
 use mathlib.Core.Option.{Option, none, some}
 use Rattle.opcode.specs.Opcodes.{all, opcode_in, form_of}
 use Rattle.opcode.specs.declared.Opcode.{Opcode}
 use Rattle.opcode.specs.declared.Opcode.TheVariants as O
 use Rattle.opcode.specs.declared.Form.{Form}
 use Rattle.opcode.specs.declared.Form.TheVariants.{R, I, Shift, S, B, J, Alone}
-use Rattle.opcode.specs.declared.Found.{Found}
-use Rattle.opcode.specs.declared.Found.TheVariants.{Op, Nothing}
 use Rattle.opcode.proofs.Arms.{everywhere}
 use Rattle.opcode.proofs.Variants.{place, all-at}
 use Rattle.opcode.proofs.Numberings.{number-found}
@@ -198,10 +196,10 @@ module _ (look : Form → List ℕ → Option ℤ) where
   told-word op none x e n = refused x e n
   told-word op (some vs) x e n = (vs, refl)
 
-  op-sound : (g : ℕ) (t : List ℕ) (f : Found) (x : Saying) → opcode_in name_key (key_of (run_of is_part t)) ≡ f → instruction_read f look (past is_part t) ≡ x → (x ≡ wrong → ⊥) → LineSound (spaces g ++ t) x
+  op-sound : (g : ℕ) (t : List ℕ) (f : Option Opcode) (x : Saying) → opcode_in name_key (key_of (run_of is_part t)) ≡ f → instruction_read f look (past is_part t) ≡ x → (x ≡ wrong → ⊥) → LineSound (spaces g ++ t) x
   unfolding LineSound line_text line_saying ArgumentsSound
-  op-sound g t Nothing x e h n = refused x h n
-  op-sound g t (Op op) x e h n =
+  op-sound g t None x e h n = refused x h n
+  op-sound g t (Some op) x e h n =
       let k = told-word op (operands_read (kinds_of (form_of op)) (look (form_of op)) (past is_part t)) x h n in
       let a = arguments_sound (look (form_of op)) (form_of op) (past is_part t) k.0 (past_head is_part t refl) k.1 in
       let name : run_of is_part t ≡ name_of op = one_key (run_of is_part t) (name_of op) (every-run is_part t) (parts-of look (name_of op) (name-is op)) (name-short op) (sym (number-found name_key all (key_of (run_of is_part t)) op e)) in (

@@ -1,6 +1,7 @@
 -- A line of the assembler's language: what can be written, as trees that hold every space; the text of a tree; the word of an
 -- instruction. "One instruction a line, operands in the order rd, rs1, rs2, immediate as far as present; commas between operands."
-use Rattle.std.specs.Prelude.{◌≡◌, ℕ, zero, suc, true, List, [], ◌∷◌, ◌++◌, ℤ, pos, nat_lt}
+use Rattle.refusal.specs.declared.Refusal.{Refusal}
+use Rattle.std.specs.Prelude.{Err, Ok, Result, ◌≡◌, ℕ, zero, suc, true, List, [], ◌∷◌, ◌++◌, ℤ, pos, nat_lt}
 use Rattle.std.proofs.Math.Option.{Option, none, some}
 use Rattle.std.specs.Int.{w64}
 use Rattle.std.proofs.Common.{of_z}
@@ -10,8 +11,6 @@ use Rattle.opcode.specs.declared.Form.{Form}
 use Rattle.opcode.specs.declared.Form.TheVariants.{R, I, Shift, S, B, J, Alone}
 use Rattle.instruction.specs.declared.Parts.{Parts}
 use Rattle.words.specs.Words.{encoded_in}
-use Rattle.words.specs.declared.Encoded.{Encoded}
-use Rattle.words.specs.declared.Encoded.TheVariants as E
 use Rattle.names.specs.Names.{name_of, register_text}
 use Rattle.labels.specs.Bytes.{is_name, spaces}
 use Rattle.sums.specs.Sums.{Sum, sum_text, sum_value}
@@ -97,9 +96,9 @@ parts_by op B vs = parts op (bits_at vs 0) (bits_at vs 1) 0 (bits_at vs 2)
 parts_by op J vs = parts op (bits_at vs 0) 0 0 (bits_at vs 1)
 parts_by op Alone vs = parts op 0 0 0 0
 
-abbrev pub word_made : Encoded → Option ℕ
-word_made (E.Word w) = some w
-word_made (E.Refused r) = none
+abbrev pub word_made : Result ℕ Refusal → Option ℕ
+word_made (Ok w) = some w
+word_made (Err r) = none
 
 -- the word, if every value is one and fits its field
 unfoldable pub word_for : Opcode → Option (List ℤ) → Option ℕ

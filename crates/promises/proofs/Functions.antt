@@ -429,13 +429,13 @@ pub effect·branch·taken : Determined effect_says.branch.taken.ended effect.bra
 effect·branch·taken κs a x y = one (λ r. r & x.1)
 
 pub effect·immediate·decide : Determined effect_says.immediate.decide.ended effect.immediate.decide.Reads.Learnt
-effect·immediate·decide κs a x y = λ p q. ap (λ (r : Turn). r & x.1) (one-turn a.0 a.1.0 a.1.1.0.now _ _ p q)
+effect·immediate·decide κs a x y = λ p q. ap (λ (r : Result Turn Refusal). r & x.1) (one-turn a.0 a.1.0 a.1.1.0.now _ _ p q)
 
 pub effect·immediate·shift : Determined effect_says.immediate.shift.ended effect.immediate.shift.Reads.Learnt
 effect·immediate·shift κs a x y = λ p q. ap (λ (r : Turn). r & x.1) (one_shift a.0 a.1.0 _ _ p q)
 
 pub effect·registers·decide : Determined effect_says.registers.decide.ended effect.registers.decide.Reads.Learnt
-effect·registers·decide κs a x y = λ p q. ap (λ (r : Deed). r & x.1) (one-deed a.0 a.1.0 _ _ p q)
+effect·registers·decide κs a x y = λ p q. ap (λ (r : Result Deed Refusal). r & x.1) (one-deed a.0 a.1.0 _ _ p q)
 
 pub effect·store·store-size : Determined effect_says.store.store_size.ended effect.store.store_size.Reads.Learnt
 effect·store·store-size κs a x y = one (λ r. r & x.1)

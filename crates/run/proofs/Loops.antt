@@ -14,7 +14,8 @@ use Rattle.execute.specs.declared.Choices.{Choices}
 use Rattle.execute.specs.declared.Mode.{Mode}
 use Rattle.execute.specs.declared.Went.{Went}
 use Rattle.execute.specs.declared.Went.TheVariants as W
-use Rattle.pending.specs.Pending.{Lists, Check, checks_of, lists_fit, room_of, listing}
+use Rattle.pending.specs.Pending.{Lists, checks_of, lists_fit, room_of, listing}
+use Rattle.pending.specs.declared.Check.{Check}
 use Rattle.pending.specs.declared.Room.{Room}
 use Rattle.pending.specs.declared.Room.TheVariants.{Unlent, Left}
 use Rattle.pending.proofs.Lists.{unlent-stays}

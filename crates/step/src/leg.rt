@@ -9,8 +9,7 @@ ghost use Rattle.step.specs.Step.{step_in, goes_on, counted};
 ghost use Rattle.step.specs.Leg.{unlisted, leg_in, gone};
 
 use execute::{Advance, Choices, Start, Went, word};
-use memory::Fetched;
-use pending::{Checks, Room};
+use pending::{Check, Room};
 use state::State;
 use state::registers::Registers;
 
@@ -19,7 +18,7 @@ use state::registers::Registers;
 pub struct Gone {
     pub went: Went,
     pub steps: u64,
-    pub checks: Checks,
+    pub checks: Option<Check>,
     pub pc: u64,
     pub state: State,
 }
@@ -47,19 +46,19 @@ fn counted(went: Went) -> u64
 }
 
 // Whether there is nothing to be listed.
-fn unlisted(checks: Checks, room: Room) -> bool
+fn unlisted(checks: Option<Check>, room: Room) -> bool
     ensures { result ≡ unlisted (checks_of checks) room }
 {
     match checks {
-        Checks::Nothing => true,
-        Checks::One { .. } => match room {
+        None => true,
+        Some(_) => match room {
             Room::Unlent => true,
             Room::Left(_) => false,
         },
     }
 }
 
-fn passes(went: Went, checks: Checks, room: Room) -> bool
+fn passes(went: Went, checks: Option<Check>, room: Room) -> bool
     ensures { result ≡ (goes_on went && unlisted (checks_of checks) room) }
 {
     if !goes_on(went) {
@@ -73,8 +72,8 @@ fn step_in(start: Start, registers: &mut Registers, m: &mut [u8]) -> Advance
     ensures { advanced result registers.new m.new ≡ step_in start.choices.mode start.room (rules_of start.choices) (started start registers.old m.old) }
 {
     match memory::fetch(m, start.pc) {
-        Fetched::Word(word) => word::obey(start, word, registers, m),
-        Fetched::Refused(r) => execute::refuse(start, r),
+        Ok(word) => word::obey(start, word, registers, m),
+        Err(r) => execute::refuse(start, r),
     }
 }
 
@@ -113,7 +112,7 @@ pub fn advance(choices: Choices, room: Room, s: State, fuel: u64, m: &mut [u8]) 
     Gone {
         went: Went::On,
         steps: n,
-        checks: Checks::Nothing,
+        checks: None,
         pc,
         state: state::together(pc, halted, registers),
     }

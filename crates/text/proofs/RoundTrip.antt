@@ -1,4 +1,6 @@
 -- "Printing any decodable program and assembling the print gives the same words." Assumes nothing.
+use Rattle.std.specs.Prelude.{Err, Ok, Result}
+use Rattle.refusal.specs.declared.Refusal.{Refusal}
 use mathlib.Core.Path.{◌≡◌, refl, sym, ap, ◌∙◌, fun_ext}
 use mathlib.Core.Logic.{⊎_elim}
 use mathlib.Core.Bool.{Bool, true, false, cond, ◌&&◌, not}
@@ -28,10 +30,6 @@ use Rattle.instruction.specs.declared.Parts.{Parts}
 use Rattle.instruction.proofs.Wholes.{kept, parts-kept}
 use Rattle.refusal.specs.Stops.{refusal_of}
 use Rattle.words.specs.Words.{parts_fit, encoded_in, decode_in, word_of}
-use Rattle.words.specs.declared.Encoded.{Encoded}
-use Rattle.words.specs.declared.Encoded.TheVariants as E
-use Rattle.words.specs.declared.Decoded.{Decoded}
-use Rattle.words.specs.declared.Decoded.TheVariants as D
 use Rattle.words.proofs.OneWord.{document}
 use Rattle.names.specs.Names.{name_of, register_text}
 use Rattle.labels.specs.Bytes.{is_digit, every}
@@ -180,20 +178,20 @@ fit p h k =
     let z = both_true (ltb p.a 16) (ltb p.b 16) y.0 in
     printed p k (arguments p z.0 z.1 y.1 (form_of p.op) x.1)
 
-made-fits : (p : Parts) (w : ℕ) → encoded_in opcode_number p ≡ E.Word w → parts_fit p ≡ true
+made-fits : (p : Parts) (w : ℕ) → encoded_in opcode_number p ≡ Ok w → parts_fit p ≡ true
 unfolding encoded_in
 made-fits p w = go (parts_fit p)
   where
-    go : (c : Bool) → cond c (E.Word (word_of (form_of p.op) (opcode_number p.op) p)) (E.Refused (refusal_of 9 0)) ≡ E.Word w → c ≡ true
+    go : (c : Bool) → cond c (Ok (word_of (form_of p.op) (opcode_number p.op) p)) (Err (refusal_of 9 0)) ≡ Ok w → c ≡ true
     go true e = refl
     go false e = absurd (let z : ◌≡◌ {A = ℕ} 0 1 = cc in omega arith)
 
 -- what a decoded instruction prints is read as its word
-line-back : (w : ℕ) (i : Instruction) → w < 2 ^ 32 → decode_in opcode_number w ≡ D.Instruction i → reader (print_line (parts_of i)) ≡ (λ look. word w)
+line-back : (w : ℕ) (i : Instruction) → w < 2 ^ 32 → decode_in opcode_number w ≡ Ok i → reader (print_line (parts_of i)) ≡ (λ look. word w)
 line-back w i h e =
-    let made : encoded_in opcode_number (parts_of i) ≡ E.Word w = document.made_again w i h e in
+    let made : encoded_in opcode_number (parts_of i) ≡ Ok w = document.made_again w i h e in
     let p = fit (parts_of i) (made-fits (parts_of i) w made) (parts-kept i) in
-    fun_ext (λ look. ap (line_read look) (sym p.text) ∙ line-complete look p.tree ∙ p.tells look ∙ ap (λ (x : Encoded). saying_of (word_made x)) made)
+    fun_ext (λ look. ap (line_read look) (sym p.text) ∙ line-complete look p.tree ∙ p.tells look ∙ ap (λ (x : Result ℕ Refusal). saying_of (word_made x)) made)
 
 -- ---- the lines of a print
 plain : ℕ → Bool
@@ -284,10 +282,10 @@ readers (w ∷ ws) t h e = go (decode_in opcode_number w) (print_of ws) refl ref
     small : (ltb w (2 ^ 32) ≡ true) × (every (λ w. ltb w (2 ^ 32)) ws ≡ true)
     small = both_true (ltb w (2 ^ 32)) (every (λ w. ltb w (2 ^ 32)) ws) h
 
-    go : (d : Decoded) (p : Printed) → decode_in opcode_number w ≡ d → print_of ws ≡ p → printed_by d p ≡ text t
+    go : (d : Result Instruction Refusal) (p : Printed) → decode_in opcode_number w ≡ d → print_of ws ≡ p → printed_by d p ≡ text t
         → ((t : List ℕ) → every (λ w. ltb w (2 ^ 32)) ws ≡ true → print_of ws ≡ text t → map reader (lines_of t) ≡ constant ws)
         → map reader (lines_of t) ≡ (λ look. word w) ∷ constant ws
-    go (D.Instruction i) (text u) ed ep e ih =
+    go (Ok i) (text u) ed ep e ih =
         let b = ltb-true w (2 ^ 32) small.0 in
         let fits = made-fits (parts_of i) w (document.made_again w i b ed) in
         let q : print_line (parts_of i) ++ (10 ∷ u) ≡ t = cc in
@@ -295,8 +293,8 @@ readers (w ∷ ws) t h e = go (decode_in opcode_number w) (print_of ws) refl ref
         ∙ ap (map reader) (line-print (print_line (parts_of i)) u (line_plain (parts_of i) fits))
         ∙ ap (λ (f : Teller). f ∷ map reader (lines_of u)) (line-back w i b ed)
         ∙ ap ((λ look. word w) ∷◌) (ih u small.1 ep)
-    go (D.Instruction i) (undecodable r) ed ep e ih = absurd (let z : ◌≡◌ {A = ℕ} 0 1 = cc in omega arith)
-    go (D.Refused r) p ed ep e ih = absurd (let z : ◌≡◌ {A = ℕ} 0 1 = cc in omega arith)
+    go (Ok i) (undecodable r) ed ep e ih = absurd (let z : ◌≡◌ {A = ℕ} 0 1 = cc in omega arith)
+    go (Err r) p ed ep e ih = absurd (let z : ◌≡◌ {A = ℕ} 0 1 = cc in omega arith)
 
 pub assembled : (ws : List ℕ) (labels : List _) (line own : ℕ) (seen : List _) → assemble_from (constant ws) labels line own seen ≡ made ws
 unfolding constant assemble_from
