@@ -3,7 +3,7 @@
 --     fits-is, room-is      the lists' tests, of the room
 --     listed_more           a record put at the count is one check more; there is none where there is no room
 --     refused-to-empty .. entry-is    what the calls answer, from the tests that they make
-use Rattle.std.specs.Prelude.{Err, Ok}
+use Rattle.std.specs.Prelude.{Err, None, Ok, Some}
 use Prim.Native.Nat.{ℕ, zero, suc, ◌+◌, ◌<◌, ◌≤◌}
 use mathlib.Core.Path.{◌≡◌, refl, ap, ◌∙◌}
 use mathlib.Core.Bool.{true, false}
@@ -13,8 +13,7 @@ use lib.ListN.{length, set, get_or, drop, length-map, get_or-map}
 use native.Mathlib.Omega.{arith}
 use borrow.Author.Tests.{lt-ltb, le-ltb, eq-eqb, le-leb, lt-leb}
 use Rattle.refusal.specs.Stops.{refusal_of}
-use Rattle.pending.specs.Pending.{Lists, lists_fit, room_at, room_of, appended, empty_answer, empty_lists, entry_at}
-use Rattle.pending.specs.declared.Entry.TheVariants as E
+use Rattle.pending.specs.Pending.{entry, Lists, lists_fit, room_at, room_of, appended, empty_answer, empty_lists, entry_at}
 use Rattle.pending.proofs.Lists.{empty-malformed, empty-done, entry-malformed, entry-beyond, entry-there}
 use Rattle.checks.specs.Records.{listed}
 use Rattle.checks.specs.declared.Pending.{Pending}

@@ -7,7 +7,7 @@ ghost use Rattle.exports.specs.Coding.{packed_of, decoded_triple, encoded_number
 
 use crate::triple::{Triple, refused, write_triple};
 use instruction::{Instruction, Parts};
-use refusal::number_of;
+use refusal::{Refusal, number_of};
 
 fn packed(p: Parts) -> u64
     ensures { result ≡ packed_of p }

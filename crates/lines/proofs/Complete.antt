@@ -1,6 +1,5 @@
 -- Whatever spells a line is read as what it says. Assumes nothing.
-use Rattle.std.proofs.Common.{◌≡◌, ℕ, zero, suc, ◌+◌, ◌-◌, ◌<◌, ◌≤◌, Bool, true, false, cond, ◌&&◌, ◌||◌, eqb, ltb, leb, List, [], ◌∷◌, ◌++◌, ℤ, pos, refl, ap, ◌∙◌, subst, append_assoc, arith, ltb-false, ltb-true, ne_eqb, le-leb, leb-false}
-use mathlib.Core.Option.{Option, none, some}
+use Rattle.std.proofs.Common.{None, Option, Some, ◌≡◌, ℕ, zero, suc, ◌+◌, ◌-◌, ◌<◌, ◌≤◌, Bool, true, false, cond, ◌&&◌, ◌||◌, eqb, ltb, leb, List, [], ◌∷◌, ◌++◌, ℤ, pos, refl, ap, ◌∙◌, subst, append_assoc, arith, ltb-false, ltb-true, ne_eqb, le-leb, leb-false}
 use lib.ListN.{replicate-append-replicate}
 use borrow.Author.Tests.{lt-leb}
 use Rattle.opcode.specs.Opcodes.{all, opcode_in, form_of}
@@ -99,9 +98,9 @@ register-law r t h d = go (ltb r 10) refl
     go true e = register-one r t (ltb-true r 10 e) d
     go false e = register-two r t (ltb-false r 10 e) (ltb-true r 16 h)
 
-some-given : (o : Option ℤ) (t : List ℕ) (go : ℤ → List ℕ → Option (List ℤ)) (rest : Option (List ℤ)) → ((v : ℤ) → go v t ≡ pushed (some v) rest) → with (given o t) go ≡ pushed o rest
-some-given none t go rest h = refl
-some-given (some v) t go rest h = h v
+some-given : (o : Option ℤ) (t : List ℕ) (go : ℤ → List ℕ → Option (List ℤ)) (rest : Option (List ℤ)) → ((v : ℤ) → go v t ≡ pushed (Some v) rest) → with (given o t) go ≡ pushed o rest
+some-given None t go rest h = refl
+some-given (Some v) t go rest h = h v
 
 operand-law : {k : Kind} (o : Operand k) (look : List ℕ → Option ℤ) (t : List ℕ) → Ends t → operand_read k look (operand_text o ++ t) ≡ given (operand_value o look) (skip t)
 unfolding operand_read
@@ -138,8 +137,8 @@ module _ (look : List ℕ → Option ℤ) where
       let reads : operand_read k look (skip (operands_text (last g o h) ++ spaces n)) ≡ given (operand_value o look) [] =
       ap (λ (u : List ℕ). operand_read k look (skip u)) whole ∙ ap (operand_read k look) (skip-spaces g T ∙ skip-operand o (spaces (h + n)))
       ∙ operand-law o look (spaces (h + n)) (ends_last (h + n)) ∙ ap (given (operand_value o look)) (skip_all (h + n)) in
-      ap (λ (x : Got). with x (λ v u. cond (nothing u) (some (v ∷ [])) none)) reads
-      ∙ some-given (operand_value o look) [] (λ v u. cond (nothing u) (some (v ∷ [])) none) (some []) (λ v. refl)
+      ap (λ (x : Got). with x (λ v u. cond (nothing u) (Some (v ∷ [])) None)) reads
+      ∙ some-given (operand_value o look) [] (λ v u. cond (nothing u) (Some (v ∷ [])) None) (Some []) (λ v. refl)
 
   more-law : {k j : Kind} {ks : List Kind} (g : ℕ) (o : Operand k) (h : ℕ) (os : Operands (j ∷ ks)) (n : ℕ) → operands_read (j ∷ ks) look (operands_text os ++ spaces n) ≡ operands_values os look
       → operands_read (k ∷ (j ∷ ks)) look (operands_text (more g o h os) ++ spaces n) ≡ operands_values (more g o h os) look
@@ -151,12 +150,12 @@ module _ (look : List ℕ → Option ℤ) where
       let reads : operand_read k look (skip (operands_text (more g o h os) ++ spaces n)) ≡ given (operand_value o look) (44 ∷ U) =
       ap (λ (u : List ℕ). operand_read k look (skip u)) whole ∙ ap (operand_read k look) (skip-spaces g (operand_text o ++ Y) ∙ skip-operand o Y)
       ∙ operand-law o look Y (ends-comma h U) ∙ ap (given (operand_value o look)) (skip-spaces h (44 ∷ U)) in
-      ap (λ (x : Got). with x (λ v u. cond (eqb (head_of u) 44) (pushed (some v) (operands_read (j ∷ ks) look (tail_of u))) none)) reads
-      ∙ some-given (operand_value o look) (44 ∷ U) (λ v u. cond (eqb (head_of u) 44) (pushed (some v) (operands_read (j ∷ ks) look (tail_of u))) none) (operands_values os look) (λ v. ap (pushed (some v)) ih)
+      ap (λ (x : Got). with x (λ v u. cond (eqb (head_of u) 44) (pushed (Some v) (operands_read (j ∷ ks) look (tail_of u))) None)) reads
+      ∙ some-given (operand_value o look) (44 ∷ U) (λ v u. cond (eqb (head_of u) 44) (pushed (Some v) (operands_read (j ∷ ks) look (tail_of u))) None) (operands_values os look) (λ v. ap (pushed (Some v)) ih)
 
   operands-law : {ks : List Kind} (os : Operands ks) (n : ℕ) → operands_read ks look (operands_text os ++ spaces n) ≡ operands_values os look
   unfolding operands_read operands_text operands_values
-  operands-law without n = ap (λ (u : List ℕ). cond (nothing u) (some []) none) (skip_all n)
+  operands-law without n = ap (λ (u : List ℕ). cond (nothing u) (Some []) None) (skip_all n)
   operands-law (last g o h) n = last-law g o h n
   operands-law (more g o h os) n = more-law g o h os n (operands-law os n)
 

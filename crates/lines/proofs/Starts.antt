@@ -1,7 +1,6 @@
 -- How a line begins, and what it then says. Assumes nothing.
 use Rattle.opcode.specs.declared.Opcode.{Opcode}
-use Rattle.std.proofs.Common.{None, Some, ◌≡◌, ℕ, ◌+◌, ◌^◌, ◌<◌, ◌≤◌, Bool, true, false, cond, eqb, ltb, List, [], ◌∷◌, length, drop, ℤ, sym, refl, ap, ◌∙◌, subst, zero-add, eq-eqb, ne_eqb, eqb-true}
-use mathlib.Core.Option.{Option}
+use Rattle.std.proofs.Common.{Option, None, Some, ◌≡◌, ℕ, ◌+◌, ◌^◌, ◌<◌, ◌≤◌, Bool, true, false, cond, eqb, ltb, List, [], ◌∷◌, length, drop, ℤ, sym, refl, ap, ◌∙◌, subst, zero-add, eq-eqb, ne_eqb, eqb-true}
 use Rattle.opcode.specs.Opcodes.{form_of, opcode_in}
 use Rattle.opcode.specs.declared.Form.{Form}
 use Rattle.names.specs.Names.{name_key}

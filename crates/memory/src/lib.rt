@@ -109,19 +109,7 @@ fn write(m: &mut [u8], at: usize, size: Size, value: u64)
     }
 }
 
-pub fn load(m: &[u8], address: u64, size: Size) -> Result<u64, Refusal>
-    ensures { result ≡ load_of size m.now address }
-{
-    match reach(m.len(), address, size) {
-        Access::Served => Ok(read(m, address as usize, size)),
-        Access::Beyond => Err(Refusal::Beyond {
-            missing: beyond_at(m.len(), address),
-        }),
-        Access::Misaligned => Err(Refusal::Misaligned { address }),
-    }
-}
-
-// What a store would answer: nothing is stored.
+// What a store would answer, and a load that is refused: nothing is stored.
 fn storable(len: usize, address: u64, size: Size) -> Result<(), Refusal>
     ensures { result ≡ store_of size len address }
 {
@@ -132,6 +120,14 @@ fn storable(len: usize, address: u64, size: Size) -> Result<(), Refusal>
         }),
         Access::Misaligned => Err(Refusal::Misaligned { address }),
     }
+}
+
+#[tactic(auto, using(crate::proofs::Accesses::load_served, crate::proofs::Accesses::load_refused))]
+pub fn load(m: &[u8], address: u64, size: Size) -> Result<u64, Refusal>
+    ensures { result ≡ load_of size m.now address }
+{
+    storable(m.len(), address, size)?;
+    Ok(read(m, address as usize, size))
 }
 
 #[tactic(auto, unfolding(crate::specs::Memory::on_stored))]

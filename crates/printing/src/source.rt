@@ -5,8 +5,9 @@ ghost use Rattle.opcode.specs.Opcodes.{opcode_number};
 ghost use Rattle.words.specs.Words.{decode_in};
 ghost use Rattle.printing.specs.Passes.{taken_of};
 
-use instruction::parts_of;
+use instruction::{Parts, parts_of};
 use memory::bytes::number_at;
+use refusal::Refusal;
 use words::decode;
 
 fn word_at(words: &[u8], at: usize) -> u32
@@ -21,8 +22,5 @@ pub(crate) fn parts_at(words: &[u8], at: usize) -> Result<Parts, Refusal>
     requires { at + 4 ≤ length words.now }
     ensures { result ≡ taken_of (decode_in opcode_number (number_at 4 words.now at)) }
 {
-    match decode(word_at(words, at)) {
-        Ok(i) => Ok(parts_of(i)),
-        Err(r) => Err(r),
-    }
+    Ok(parts_of(decode(word_at(words, at))?))
 }

@@ -1,5 +1,5 @@
 -- What is met of one line, and what that leaves of the labels. Assumes nothing.
-use Rattle.std.specs.Prelude.{None, Some}
+use Rattle.std.specs.Prelude.{Option, None, Some}
 use Rattle.opcode.specs.declared.Opcode.{Opcode}
 use mathlib.Core.Path.{◌≡◌, refl, sym, ap, ◌∙◌, subst}
 use mathlib.Core.Bool.{Bool, true, false, cond, not}
@@ -18,7 +18,6 @@ use Rattle.labels.specs.Table.{slots_of, search_in}
 use Rattle.labels.specs.declared.table.Slot.{Slot}
 use Rattle.opcode.specs.Opcodes.{opcode_in, form_of}
 use Rattle.opcode.specs.declared.Form.{Form}
-use mathlib.Core.Option.{Option, none, some}
 use Rattle.names.specs.Names.{name_key}
 use Rattle.lines.specs.Lines.{saying_of, named, wrong, kinds_of, word_for}
 use Rattle.lines.specs.Reader.{line_read, instruction_read, operands_read}
@@ -38,8 +37,8 @@ pub instruction-counts : (f : Option Opcode) (look : Form → List ℕ → Optio
 instruction-counts (Some op) look u = go (word_for op (operands_read (kinds_of (form_of op)) (look (form_of op)) u))
   where
     go : (o : Option ℕ) → Counts (saying_of o)
-    go none = tt
-    go (some w) = tt
+    go None = tt
+    go (Some w) = tt
 instruction-counts None look u = tt
 
 -- ---- what the labels are then

@@ -1,11 +1,10 @@
 -- "Printing any decodable program and assembling the print gives the same words." Assumes nothing.
-use Rattle.std.specs.Prelude.{Err, Ok, Result}
+use Rattle.std.specs.Prelude.{None, Option, Some, Err, Ok, Result}
 use Rattle.refusal.specs.declared.Refusal.{Refusal}
 use mathlib.Core.Path.{◌≡◌, refl, sym, ap, ◌∙◌, fun_ext}
 use mathlib.Core.Logic.{⊎_elim}
 use mathlib.Core.Bool.{Bool, true, false, cond, ◌&&◌, not}
 use mathlib.Core.List.{List, [], ◌∷◌, ◌++◌, map}
-use mathlib.Core.Option.{Option, none, some}
 use Prim.Native.Nat.{ℕ, suc, ◌+◌, ◌-◌, ◌^◌, ◌≤◌, ◌<◌}
 use native.Mathlib.Omega.{arith}
 use native.Mathlib.Nat.{pow-le-pow_right}
@@ -50,7 +49,7 @@ use Rattle.text.specs.Statements.{RoundTrip}
 pub record Numeral (n : ℕ) : Type 0 where
   pub tree : Sum
   pub text : sum_text tree ≡ number_text n
-  pub value : (look : List ℕ → Option ℤ) → (v : ℤ) × (sum_value tree look 16 ≡ some v) × (of_z w64 v ≡ n)
+  pub value : (look : List ℕ → Option ℤ) → (v : ℤ) × (sum_value tree look 16 ≡ Some v) × (of_z w64 v ≡ n)
 
 single : Term → Sum
 single t = record { first = t; rest = done }
@@ -65,7 +64,7 @@ numeral n h = go (ltb n (2 ^ 63)) refl
         record {
           tree = single (number unsigned (digits_by 20 n) w.some);
           text = append-none (digits_by 20 n) ∙ ap (λ (c : Bool). cond c (digits_by 20 n) (45 ∷ digits_by 20 (2 ^ 64 - n))) (sym e);
-          value = λ look. (pos n, ap (λ (m : ℕ). cond (ltb m (2 ^ 63)) (some (pos m)) none) w.value ∙ ap (λ (c : Bool). cond c (some (pos n)) none) e, refl);
+          value = λ look. (pos n, ap (λ (m : ℕ). cond (ltb m (2 ^ 63)) (Some (pos m)) None) w.value ∙ ap (λ (c : Bool). cond c (Some (pos n)) None) e, refl);
         }
     go false e =
         let l = ltb-false n (2 ^ 63) e in
@@ -76,14 +75,14 @@ numeral n h = go (ltb n (2 ^ 63)) refl
         record {
           tree = single (number minus (digits_by 20 (2 ^ 64 - n)) w.some);
           text = append-none (45 ∷ digits_by 20 (2 ^ 64 - n)) ∙ ap (λ (c : Bool). cond c (digits_by 20 n) (45 ∷ digits_by 20 (2 ^ 64 - n))) (sym e);
-          value = λ look. (negsuc k, ap (λ (m : ℕ). cond (fits64 (neg_ℤ (pos m))) (some (neg_ℤ (pos m))) none) (w.value ∙ m) ∙ ap (λ (c : Bool). cond c (some (negsuc k)) none) f, omega arith);
+          value = λ look. (negsuc k, ap (λ (m : ℕ). cond (fits64 (neg_ℤ (pos m))) (Some (neg_ℤ (pos m))) None) (w.value ∙ m) ∙ ap (λ (c : Bool). cond c (Some (negsuc k)) None) f, omega arith);
         }
 
 -- ---- an instruction's operands
 pub record Arguments (f : Form) (p : Parts) : Type 0 where
   pub operands : Operands (kinds_of f)
   pub text : arguments_text operands ≡ spelled (operand_texts f p)
-  pub values : (look : List ℕ → Option ℤ) → (vs : List ℤ) × (operands_values operands look ≡ some vs) × (parts_by p.op f vs ≡ kept f p)
+  pub values : (look : List ℕ → Option ℤ) → (vs : List ℤ) × (operands_values operands look ≡ Some vs) × (parts_by p.op f vs ≡ kept f p)
 
 narrow : (h n : ℕ) → h ≤ 63 → fits_in h n ≡ true → n < 2 ^ 64
 narrow h n l e = ⊎_elim (λ w. small (2 ^ h) w (power h l)) (λ w. w.1) (fits-means h n e)
@@ -110,9 +109,9 @@ module _ (p : Parts) (a : ltb p.a 16 ≡ true) (b : ltb p.b 16 ≡ true) (c : lt
   unfolding with_number operands_text
   two-text n = ap (λ (t : List ℕ). 32 ∷ (register_text p.a ++ (44 ∷ (32 ∷ (register_text p.b ++ (44 ∷ (32 ∷ (t ++ [])))))))) n.text
 
-  two-values : (n : Numeral p.imm) (look : List ℕ → Option ℤ) → operands_values (with_number n) look ≡ some (pos p.a ∷ (pos p.b ∷ ((n.value look).0 ∷ [])))
+  two-values : (n : Numeral p.imm) (look : List ℕ → Option ℤ) → operands_values (with_number n) look ≡ Some (pos p.a ∷ (pos p.b ∷ ((n.value look).0 ∷ [])))
   unfolding with_number operands_values
-  two-values n look = ap (λ (o : Option ℤ). pushed (some (pos p.a)) (pushed (some (pos p.b)) (pushed o (some [])))) (n.value look).1
+  two-values n look = ap (λ (o : Option ℤ). pushed (Some (pos p.a)) (pushed (Some (pos p.b)) (pushed o (Some [])))) (n.value look).1
 
   -- the four forms with two registers and a number
   two : (f : Form) → (n : Numeral p.imm) → (to : Operands (kinds_of I) → Operands (kinds_of f))
@@ -130,7 +129,7 @@ module _ (p : Parts) (a : ltb p.a 16 ≡ true) (b : ltb p.b 16 ≡ true) (c : lt
   jump n = record {
     operands = more 0 (reg p.a a) 0 (last 1 (sum n.tree) 0);
     text = ap (λ (t : List ℕ). 32 ∷ (register_text p.a ++ (44 ∷ (32 ∷ (t ++ []))))) n.text;
-    values = λ look. (pos p.a ∷ ((n.value look).0 ∷ []), ap (λ (o : Option ℤ). pushed (some (pos p.a)) (pushed o (some []))) (n.value look).1, ap (λ (i : ℕ). record { op = p.op; a = p.a; b = 0; c = 0; imm = i }) (n.value look).2);
+    values = λ look. (pos p.a ∷ ((n.value look).0 ∷ []), ap (λ (o : Option ℤ). pushed (Some (pos p.a)) (pushed o (Some []))) (n.value look).1, ap (λ (i : ℕ). record { op = p.op; a = p.a; b = 0; c = 0; imm = i }) (n.value look).2);
   }
 
   arguments : (f : Form) → imm_fits f p.imm ≡ true → Arguments f p

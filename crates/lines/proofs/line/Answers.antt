@@ -25,15 +25,15 @@ returns-in-Label c =
     c.start_of.ensures c.in-Label.is in
     w.0 _ ∙ ap named w.1.0
 
-pub returns-in-Op : goal.returns-in-Op
-returns-in-Op c =
+pub returns-in-Some : goal.returns-in-Some
+returns-in-Some c =
     let a = c.args in
     let look = labels_in a.text.now a.table.now a.own in
     began a.s.now c.start_of.result _
     c.start_of.ensures
     c.in-Word.is look
     ∙ ap (λ (f : Option Opcode). instruction_read f look (drop c.in-Word.n a.s.now))
-    (sym c.named.ensures ∙ c.in-Op.is)
+    (sym c.named.ensures ∙ c.in-Some.is)
     ∙ c.instruction.ensures
     ∙ word-said a.s.now c.instruction.result
     ∙ ap (said_of a.s.now) (sym c.word_or_bad.ensures)
