@@ -8,8 +8,7 @@ use crate::reading::read;
 pub fn well_laid(bytes: &[u8]) -> bool
     ensures { result ≡ well_laid bytes.now }
 {
-    let r = read(bytes);
-    r.laid
+    read(bytes).laid
 }
 
 // Whether they are those of a state that the rules allow.

@@ -84,8 +84,7 @@ pub fn advance(choices: Choices, room: Room, s: State, fuel: u64, m: &mut [u8]) 
     let mut registers = s.registers;
     let mut pc = s.pc;
     let mut halted = s.halted;
-    let mut n: u64 = 0;
-    while n < fuel {
+    for n in 0..fuel {
         let start = Start {
             choices,
             room,
@@ -107,11 +106,10 @@ pub fn advance(choices: Choices, room: Room, s: State, fuel: u64, m: &mut [u8]) 
         }
         pc = a.pc;
         halted = a.halted;
-        n += 1;
     }
     Gone {
         went: Went::On,
-        steps: n,
+        steps: fuel,
         checks: None,
         pc,
         state: state::together(pc, halted, registers),
