@@ -36,6 +36,7 @@ results-exact κs a low high f h e d x =
     let n = a.1.0 in
     subst (NormalisedBy s n low high) (sym (x ∙ done-by s n low high f h e))
     (record {
+      result = result_of low high;
       done = refl;
       limbs-small = (omega arith, omega arith);
       registers = normalised s.registers n low high f e;

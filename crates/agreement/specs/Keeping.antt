@@ -1,12 +1,12 @@
 -- What every instruction keeps, what a refused one leaves, and what normalising one register does.
-use Rattle.std.specs.Prelude.{ℕ, ◌+◌, ◌*◌, ◌%◌, ◌^◌, ◌≤◌, ◌<◌, ◌≡◌, ◌≢◌, [], get_or}
+use Rattle.std.specs.Prelude.{Some, Ok, ℕ, ◌+◌, ◌*◌, ◌%◌, ◌^◌, ◌≤◌, ◌<◌, ◌≡◌, ◌≢◌, [], get_or}
 use Rattle.refusal.specs.declared.Refusal.{Refusal}
 use Rattle.state.specs.Held.{Whole, low_of, high_of, value_of, normal, joined}
 use Rattle.state.specs.declared.registers.Registers.{Registers}
 use Rattle.state.specs.Registers.{holds}
 use Rattle.state.specs.declared.State.{State}
+use Rattle.normalize.specs.declared.NormalizationResult.{NormalizationResult}
 use Rattle.normalize.specs.declared.Normalized.{Normalized}
-use Rattle.normalize.specs.declared.Normalizing.TheVariants.{Done}
 use Rattle.effect.specs.Notes.{Notes}
 use Rattle.instruction.specs.declared.Division.{Division}
 use Rattle.instruction.specs.declared.LoadKind.{LoadKind}
@@ -56,7 +56,8 @@ pub record Normalised (R T : Registers) (n low high carried : ℕ) : Type 0 wher
 
 -- what a call answers that normalised the register n of the state s, which held the limbs low and high
 pub record NormalisedBy (s : State) (n low high : ℕ) (r : Normalized) : Type 0 where
-  pub done : r.answer ≡ Done
-  pub limbs-small : (get_or r.result.normalized 0 0 < 2 ^ 20) × (get_or r.result.normalized 1 0 < 2 ^ 20)
-  pub registers : Normalised s.registers r.state.registers n low high (get_or r.result.carries 1 0)
+  pub result : NormalizationResult
+  pub done : r.answer ≡ Ok (Some result)
+  pub limbs-small : (get_or result.normalized 0 0 < 2 ^ 20) × (get_or result.normalized 1 0 < 2 ^ 20)
+  pub registers : Normalised s.registers r.state.registers n low high (get_or result.carries 1 0)
   pub pc-and-mark : (r.state.pc ≡ s.pc) × (r.state.halted ≡ s.halted)

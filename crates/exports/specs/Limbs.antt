@@ -1,13 +1,12 @@
 -- Inner: normalize.rs over the bytes of a state, with three answers of three numbers each, for the comparison.
-use Rattle.std.specs.Prelude.{ℕ, cond, List, get_or, eqb}
+use Rattle.std.specs.Prelude.{None, Some, Ok, Err, Option, Result, ℕ, cond, List, get_or, eqb}
 use Rattle.refusal.specs.Stops.{number_of, refusal_of}
+use Rattle.refusal.specs.declared.Refusal.{Refusal}
 use Rattle.memory.specs.Bytes.{bit}
 use Rattle.normalize.specs.Normalizing.{zeros, has_carries, total_carry, normalize_register, normalize_and_write, normalize_if_near_overflow}
 use Rattle.state.specs.declared.State.{State}
 use Rattle.normalize.specs.declared.NormalizationResult.{NormalizationResult}
 use Rattle.normalize.specs.declared.Normalized.{Normalized}
-use Rattle.normalize.specs.declared.Normalizing.{Normalizing}
-use Rattle.normalize.specs.declared.Normalizing.TheVariants.{Unneeded, Done, Refused}
 use Rattle.layout.specs.Layout.{STATE_BYTES, state_bytes, state_in, well_laid, written}
 use Rattle.exports.specs.declared.triple.Triple.{Triple}
 use Rattle.exports.specs.Triples.{triple, tripled}
@@ -27,14 +26,20 @@ abbrev pub limb_call : List ℕ → List ℕ → List ℕ → List ℕ → LimbC
 limb_call st be af ca = record { state = st; before = be; after = af; carries = ca }
 
 -- 0 done, 64 unneeded, or the refusal's number
-abbrev pub normalizing_code : Normalizing → ℕ
-normalizing_code Done = 0
-normalizing_code Unneeded = 64
-normalizing_code (Refused r) = number_of r
+abbrev pub normalizing_code : Result (Option NormalizationResult) Refusal → ℕ
+normalizing_code (Ok (Some r)) = 0
+normalizing_code (Ok None) = 64
+normalizing_code (Err r) = number_of r
+
+-- zeros where nothing was normalised
+abbrev pub result_in : Result (Option NormalizationResult) Refusal → NormalizationResult
+result_in (Ok (Some r)) = r
+result_in (Ok None) = zeros
+result_in (Err r) = zeros
 
 -- the code and the limbs before
-abbrev pub before_triple : Normalizing → NormalizationResult → Triple
-before_triple n r = triple (normalizing_code n) (get_or r.accumulated 0 0) (get_or r.accumulated 1 0)
+abbrev pub before_triple : ℕ → NormalizationResult → Triple
+before_triple code r = triple code (get_or r.accumulated 0 0) (get_or r.accumulated 1 0)
 
 -- the limbs after, and whether there are carries
 abbrev pub after_triple : NormalizationResult → Triple
@@ -44,16 +49,20 @@ after_triple r = triple (get_or r.normalized 0 0) (get_or r.normalized 1 0) (bit
 abbrev pub carry_triple : NormalizationResult → Triple
 carry_triple r = triple (get_or r.carries 0 0) (get_or r.carries 1 0) (total_carry r)
 
-abbrev pub laid_out : List ℕ → Normalizing → NormalizationResult → LimbCall → LimbCall
-laid_out st n r g =
-    limb_call st (tripled (before_triple n r) g.before) (tripled (after_triple r) g.after) (tripled (carry_triple r) g.carries)
+abbrev pub laid_out : List ℕ → Result (Option NormalizationResult) Refusal → LimbCall → LimbCall
+laid_out st n g =
+    let r = result_in n in
+    limb_call st
+    (tripled (before_triple (normalizing_code n) r) g.before)
+    (tripled (after_triple r) g.after)
+    (tripled (carry_triple r) g.carries)
 
 abbrev pub normalized_in : Normalized → LimbCall → LimbCall
-normalized_in n g = laid_out (written STATE_BYTES (state_bytes n.state) g.state) n.answer n.result g
+normalized_in n g = laid_out (written STATE_BYTES (state_bytes n.state) g.state) n.answer g
 
 -- bytes that are no state's are refused (9), and stay as they are
 unfoldable pub normalizing : ℕ → ℕ → ℕ → ℕ → LimbCall → LimbCall
 normalizing which reg low high g =
     cond (well_laid g.state)
     (normalized_in (normalized_by which (state_in g.state) reg low high) g)
-    (laid_out g.state (Refused (refusal_of 9 0)) zeros g)
+    (laid_out g.state (Err (refusal_of 9 0)) g)

@@ -2,33 +2,47 @@
 ghost use Rattle.std.specs.Prelude.{◌≡◌};
 ghost use Rattle.normalize.specs.Normalizing.{would_overflow};
 ghost use Rattle.exports.specs.Triples.{tripled};
-ghost use Rattle.exports.specs.Limbs.{normalized_by, limb_call, normalizing_code, before_triple, after_triple, carry_triple, normalizing};
+ghost use Rattle.exports.specs.Limbs.{normalized_by, limb_call, normalizing_code, result_in, before_triple, after_triple, carry_triple, normalizing};
 
 use crate::triple::{Triple, write_triple};
 use layout::laid::well_laid;
 use layout::reading::read_state;
 use layout::writing::write_state;
 use memory::bytes::bit;
-use normalize::{NormalizationResult, Normalized, Normalizing};
+use normalize::{NormalizationResult, Normalized};
 use refusal::{Refusal, number_of};
 use state::State;
 
-fn code_of(n: Normalizing) -> u64
+fn code_of(n: Result<Option<NormalizationResult>, Refusal>) -> u64
     ensures { result ≡ normalizing_code n }
 {
     match n {
-        Normalizing::Unneeded => 64,
-        Normalizing::Done => 0,
-        Normalizing::Refused(r) => number_of(r),
+        Ok(Some(_)) => 0,
+        Ok(None) => 64,
+        Err(r) => number_of(r),
     }
 }
 
-fn before_of(n: Normalizing, r: NormalizationResult) -> Triple
-    ensures { result ≡ before_triple n r }
+// Zeros where nothing was normalised.
+fn result_in(n: Result<Option<NormalizationResult>, Refusal>) -> NormalizationResult
+    ensures { result ≡ result_in n }
+{
+    match n {
+        Ok(Some(r)) => r,
+        _ => NormalizationResult {
+            accumulated: [0, 0],
+            normalized: [0, 0],
+            carries: [0, 0],
+        },
+    }
+}
+
+fn before_of(code: u64, r: NormalizationResult) -> Triple
+    ensures { result ≡ before_triple code r }
 {
     let limbs = r.accumulated;
     Triple {
-        first: code_of(n),
+        first: code,
         second: limbs[0],
         third: limbs[1],
     }
@@ -60,12 +74,12 @@ fn give(
     before: &mut [u8],
     after: &mut [u8],
     carries: &mut [u8],
-    answer: Normalizing,
-    r: NormalizationResult,
+    answer: Result<Option<NormalizationResult>, Refusal>,
 )
-    ensures { (before.new ≡ tripled (before_triple answer r) before.old) × (after.new ≡ tripled (after_triple r) after.old) × (carries.new ≡ tripled (carry_triple r) carries.old) }
+    ensures { (before.new ≡ tripled (before_triple (normalizing_code answer) (result_in answer)) before.old) × (after.new ≡ tripled (after_triple (result_in answer)) after.old) × (carries.new ≡ tripled (carry_triple (result_in answer)) carries.old) }
 {
-    write_triple(before, before_of(answer, r));
+    let r = result_in(answer);
+    write_triple(before, before_of(code_of(answer), r));
     write_triple(after, after_of(r));
     write_triple(carries, carries_of(r));
 }
@@ -96,21 +110,14 @@ pub extern "C" fn oracle_normalize(
     ensures { limb_call state.new before.new after.new carries.new ≡ normalizing which reg low high (limb_call state.old before.old after.old carries.old) }
 {
     if !well_laid(state) {
-        let nothing = NormalizationResult {
-            accumulated: [0, 0],
-            normalized: [0, 0],
-            carries: [0, 0],
-        };
-        let malformed = Normalizing::Refused(Refusal::Malformed);
-        give(before, after, carries, malformed, nothing);
+        give(before, after, carries, Err(Refusal::Malformed));
         return;
     }
     let n = normalized_by(which, read_state(state), reg, low, high);
     let answer = n.answer;
-    let result = n.result;
     let s = n.state;
     write_state(state, s);
-    give(before, after, carries, answer, result);
+    give(before, after, carries, answer);
 }
 
 #[unsafe(no_mangle)]

@@ -1,5 +1,5 @@
 -- normalize.rs over a state by value, as document 01 bounds it.
-use Rattle.std.specs.Prelude.{ℕ, ◌+◌, ◌*◌, ◌^◌, Bool, cond, not, ◌&&◌, ◌||◌, [], ◌∷◌, get_or, ltb, leb, eqb}
+use Rattle.std.specs.Prelude.{None, Some, Ok, Err, ℕ, ◌+◌, ◌*◌, ◌^◌, Bool, cond, not, ◌&&◌, ◌||◌, [], ◌∷◌, get_or, ltb, leb, eqb}
 use Rattle.refusal.specs.Stops.{refusal_of}
 use Rattle.state.specs.Held.{Whole, low_of, high_of, waits, normal, joined}
 use Rattle.state.specs.declared.registers.Registers.{Registers}
@@ -7,7 +7,6 @@ use Rattle.state.specs.Registers.{holds, noted, put}
 use Rattle.state.specs.declared.State.{State}
 use Rattle.normalize.specs.declared.NormalizationResult.{NormalizationResult}
 use Rattle.normalize.specs.declared.Normalized.{Normalized}
-use Rattle.normalize.specs.declared.Normalizing.TheVariants.{Unneeded, Done, Refused}
 
 abbrev pub result_of : ℕ → ℕ → NormalizationResult
 result_of low high =
@@ -35,13 +34,13 @@ abbrev pub made_whole : State → ℕ → ℕ → State
 made_whole s n v = let R = s.registers in with_registers s (put R n (Whole v) (noted R n))
 
 abbrev pub unneeded : State → Normalized
-unneeded s = record { answer = Unneeded; result = zeros; state = s }
+unneeded s = record { answer = Ok None; state = s }
 
 abbrev pub malformed : State → Normalized
-malformed s = record { answer = Refused (refusal_of 9 0); result = zeros; state = s }
+malformed s = record { answer = Err (refusal_of 9 0); state = s }
 
 abbrev pub normalized_to : NormalizationResult → State → Normalized
-normalized_to r s = record { answer = Done; result = r; state = s }
+normalized_to r s = record { answer = Ok (Some r); state = s }
 
 -- "answers zeros for R0, then refuses (9) limbs of 2^30 or more; it too keeps the bound"
 unfoldable pub normalize_and_write : State → ℕ → ℕ → ℕ → Normalized

@@ -15,17 +15,10 @@ pub struct NormalizationResult {
     pub carries: [u32; 2],
 }
 
-#[derive(Clone, Copy)]
-pub enum Normalizing {
-    Unneeded,
-    Done,
-    Refused(Refusal),
-}
-
+// `None` where there is nothing to normalise.
 #[derive(Clone, Copy)]
 pub struct Normalized {
-    pub answer: Normalizing,
-    pub result: NormalizationResult,
+    pub answer: Result<Option<NormalizationResult>, Refusal>,
     pub state: State,
 }
 
@@ -76,8 +69,7 @@ fn unneeded(s: State) -> Normalized
     ensures { result ≡ unneeded s }
 {
     Normalized {
-        answer: Normalizing::Unneeded,
-        result: zeros(),
+        answer: Ok(None),
         state: s,
     }
 }
@@ -86,8 +78,7 @@ fn malformed(s: State) -> Normalized
     ensures { result ≡ malformed s }
 {
     Normalized {
-        answer: Normalizing::Refused(Refusal::Malformed),
-        result: zeros(),
+        answer: Err(Refusal::Malformed),
         state: s,
     }
 }
@@ -134,8 +125,7 @@ pub fn normalize_and_write(s: State, reg: u8, low: u64, high: u64) -> Normalized
     }
     if reg == 0 {
         return Normalized {
-            answer: Normalizing::Done,
-            result: zeros(),
+            answer: Ok(Some(zeros())),
             state: s,
         };
     }
@@ -144,8 +134,7 @@ pub fn normalize_and_write(s: State, reg: u8, low: u64, high: u64) -> Normalized
     }
     let result = result_of(low, high);
     Normalized {
-        answer: Normalizing::Done,
-        result,
+        answer: Ok(Some(result)),
         state: made_whole(s, reg, joined(result)),
     }
 }
