@@ -58,6 +58,24 @@ fn go(
     }
 }
 
+// The run in a mode.
+fn run_in(
+    mode: Mode,
+    s: State,
+    fuel: u64,
+    m: &mut [u8],
+    values: &mut [u64],
+    bounds: &mut [u8],
+    pcs: &mut [u64],
+    count: usize,
+) -> Ran
+    ensures { ran result m.new values.new bounds.new pcs.new ≡ run mode document_rules fuel (world_of s m.old) (lists count values.old bounds.old pcs.old) }
+{
+    let taken = takes(mode, s, values.len(), bounds.len(), pcs.len(), count);
+    let begun = legs::begin(Choices { mode }, s, fuel, taken);
+    go(begun, m, values, bounds, pcs, count)
+}
+
 // The plain run.
 pub fn run_plain(
     s: State,
@@ -70,16 +88,7 @@ pub fn run_plain(
 ) -> Ran
     ensures { ran result m.new values.new bounds.new pcs.new ≡ run Plain document_rules fuel (world_of s m.old) (lists count values.old bounds.old pcs.old) }
 {
-    let taken = takes(Mode::Plain, s, values.len(), bounds.len(), pcs.len(), count);
-    let choices = Choices { mode: Mode::Plain };
-    go(
-        legs::begin(choices, s, fuel, taken),
-        m,
-        values,
-        bounds,
-        pcs,
-        count,
-    )
+    run_in(Mode::Plain, s, fuel, m, values, bounds, pcs, count)
 }
 
 // The deferred run.
@@ -94,23 +103,5 @@ pub fn run_deferred(
 ) -> Ran
     ensures { ran result m.new values.new bounds.new pcs.new ≡ run Deferred document_rules fuel (world_of s m.old) (lists count values.old bounds.old pcs.old) }
 {
-    let taken = takes(
-        Mode::Deferred,
-        s,
-        values.len(),
-        bounds.len(),
-        pcs.len(),
-        count,
-    );
-    let choices = Choices {
-        mode: Mode::Deferred,
-    };
-    go(
-        legs::begin(choices, s, fuel, taken),
-        m,
-        values,
-        bounds,
-        pcs,
-        count,
-    )
+    run_in(Mode::Deferred, s, fuel, m, values, bounds, pcs, count)
 }

@@ -1,6 +1,0 @@
-use Rattle.run.proofs.Loops.{begins}
-use Rattle.std.proofs.Common.{◌∙◌}
-use Rattle.run.proofs.run_plain.Goals as goal
-
-pub returns : goal.returns
-returns c = c.go.ensures ∙ rw c.begin.ensures (begins _ _ _ _ _ _ c.takes-taken.ensures)
