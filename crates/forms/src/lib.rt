@@ -74,13 +74,13 @@ pub fn immediate(f: Form, word: u32) -> u64
 fn fits_17(imm: u64) -> bool
     ensures { result ≡ fits_in 16 imm }
 {
-    std::num::wrapping_add_u64(imm, 0x1_0000) < 0x2_0000
+    imm.wrapping_add(0x1_0000) < 0x2_0000
 }
 
 fn fits_21(imm: u64) -> bool
     ensures { result ≡ fits_in 20 imm }
 {
-    std::num::wrapping_add_u64(imm, 0x10_0000) < 0x20_0000
+    imm.wrapping_add(0x10_0000) < 0x20_0000
 }
 
 // Whether the field of a form holds a number.

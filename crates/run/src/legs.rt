@@ -74,7 +74,7 @@ pub fn next(r: Going, g: Gone) -> Going
         choices,
         left,
         stop: stop_of(went),
-        steps: std::num::wrapping_add_u64(r.steps, g.steps),
+        steps: r.steps.wrapping_add(g.steps),
         state,
     }
 }

@@ -5,5 +5,5 @@ ghost use Rattle.std.specs.Prelude.{◌≡◌, ◌+◌, ◌%◌, ◌^◌};
 pub fn plus(x: u64, y: u64) -> u64
     ensures { result ≡ (x + y) % 2 ^ 64 }
 {
-    std::num::wrapping_add_u64(x, y)
+    x.wrapping_add(y)
 }

@@ -19,7 +19,7 @@ pub(crate) fn reading(x: u64) -> i64
 pub(crate) fn reading_32(x: u32) -> i64
     ensures { result ≡ signed_of 31 x }
 {
-    std::num::wrapping_add_u32(x, 0x8000_0000) as i64 - 0x8000_0000
+    x.wrapping_add(0x8000_0000) as i64 - 0x8000_0000
 }
 
 // The pattern of a signed number.

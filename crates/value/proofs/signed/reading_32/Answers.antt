@@ -1,6 +1,7 @@
+use mathlib.Core.Path.{refl}
 use Rattle.std.proofs.Common.{arith}
 use Rattle.value.proofs.Signs.{down-reads}
 use Rattle.value.proofs.signed.reading_32.Goals as goal
 
 pub returns : goal.returns
-returns c = down-reads c.args.x _ (omega arith) c.wrapping_add_u32.ensures.value
+returns c = down-reads c.args.x _ (omega arith) refl
