@@ -1,8 +1,8 @@
 // Notes of how many bits a value has, as `ValueBound`: what each kind of result notes.
 #![tactic(auto)]
 
-ghost use Rattle.std.specs.Prelude.{◌≡◌, max};
-ghost use Rattle.bound.specs.Bits.{capped, bits_of, after_add, after_larger, after_mul, after_div, after_and, after_shl, after_srl, after_sra, after_cmp, after_load, needs_check};
+ghost use Rattle.std.specs.Prelude.{◌≡◌};
+ghost use Rattle.bound.specs.Bits.{bits_of, after_add, after_larger, after_mul, after_div, after_and, after_shl, after_srl, after_sra, after_cmp, after_load, needs_check};
 
 // The bits that a constant needs, for immediates and return addresses: the width less its leading zeros.
 pub fn from_constant(x: u64) -> u8
@@ -11,66 +11,49 @@ pub fn from_constant(x: u64) -> u8
     (64 - u64::leading_zeros(x)) as u8
 }
 
-fn cap(b: u8) -> u8
-    ensures { result ≡ capped b }
-{
-    if b < 64 { b } else { 64 }
-}
-
-fn larger(a: u8, b: u8) -> u8
-    ensures { result ≡ max a b }
-{
-    if a < b { b } else { a }
-}
-
 pub fn after_add(a: u8, b: u8) -> u8
     ensures { result ≡ after_add a b }
 {
-    let m = larger(a, b);
-    if m < 63 { m + 1 } else { 64 }
+    a.max(b).saturating_add(1).min(64)
 }
 
 // Sub, Or and Xor; and of a move that happens, the source's and the destination's.
 pub fn after_larger(a: u8, b: u8) -> u8
     ensures { result ≡ after_larger a b }
 {
-    cap(larger(a, b))
+    a.max(b).min(64)
 }
 
 // Mul and Mulh.
 pub fn after_mul(a: u8, b: u8) -> u8
     ensures { result ≡ after_mul a b }
 {
-    let sum = a as u32 + b as u32;
-    if sum < 64 { sum as u8 } else { 64 }
+    a.saturating_add(b).min(64)
 }
 
 // Div, Divu, Rem and Remu, of the dividend's bits.
 pub fn after_div(a: u8) -> u8
     ensures { result ≡ after_div a }
 {
-    cap(a)
+    a.min(64)
 }
 
 pub fn after_and(a: u8, b: u8) -> u8
     ensures { result ≡ after_and a b }
 {
-    if a < b { cap(a) } else { cap(b) }
+    a.min(b).min(64)
 }
 
 pub fn after_shl(b: u8, k: u64) -> u8
     ensures { result ≡ after_shl b k }
 {
-    if 40 <= b {
-        return 40;
-    }
-    if k < (40 - b) as u64 { b + k as u8 } else { 40 }
+    (b as u64).saturating_add(k).min(40) as u8
 }
 
 pub fn after_srl(b: u8, k: u64) -> u8
     ensures { result ≡ after_srl b k }
 {
-    if k < b as u64 { cap(b - k as u8) } else { 0 }
+    (b as u64).saturating_sub(k).min(64) as u8
 }
 
 pub fn after_sra(b: u8, k: u64) -> u8
@@ -91,7 +74,7 @@ pub fn after_cmp() -> u8
 pub fn after_load(size: u64) -> u8
     ensures { result ≡ after_load size }
 {
-    if size < 5 { 8 * size as u8 } else { 40 }
+    size.saturating_mul(8).min(40) as u8
 }
 
 pub fn needs_check(b: u8) -> bool
