@@ -2,6 +2,5 @@ pub mod Shifts
 pub mod Order
 pub mod Products
 pub mod Columns
-pub mod Patterns
 pub mod Quotients
 pub mod Signs

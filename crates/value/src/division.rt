@@ -2,8 +2,6 @@
 ghost use Rattle.std.specs.Prelude.{◌≡◌, ◌-◌, ◌^◌, true, false, ◌≢◌};
 ghost use Rattle.value.specs.Division.{div_of, rem_of, divu_of, remu_of};
 
-use crate::signed::{pattern, reading};
-
 // The one pair whose quotient no i64 holds: -2^63 by -1.
 fn overflows(a: u64, b: u64) -> bool
     ensures { (result ≡ true → (a ≡ 2 ^ 63) × (b ≡ 2 ^ 64 - 1)) × (result ≡ false → a ≡ 2 ^ 63 → b ≢ 2 ^ 64 - 1) }
@@ -20,9 +18,8 @@ pub fn div(a: u64, b: u64) -> u64
     if overflows(a, b) {
         return a;
     }
-    let x = reading(a);
-    let y = reading(b);
-    pattern(x / y)
+    let quotient = a.cast_signed() / b.cast_signed();
+    quotient.cast_unsigned()
 }
 
 pub fn rem(a: u64, b: u64) -> u64
@@ -34,9 +31,8 @@ pub fn rem(a: u64, b: u64) -> u64
     if overflows(a, b) {
         return 0;
     }
-    let x = reading(a);
-    let y = reading(b);
-    pattern(x % y)
+    let remainder = a.cast_signed() % b.cast_signed();
+    remainder.cast_unsigned()
 }
 
 pub fn divu(a: u64, b: u64) -> u64

@@ -1,15 +1,20 @@
 // Fields with their signs at 64 bits: a loaded byte and halfword, an immediate of 17 bits, an offset of 21.
 ghost use Rattle.std.specs.Prelude.{◌≡◌, ◌-◌, ◌/◌, ◌%◌, ◌^◌, ◌<◌};
-ghost use Rattle.encoding.specs.Fields.{extended};
+ghost use Rattle.encoding.specs.Fields.{signed_of, extended};
 
-use crate::signed::{pattern, reading_32};
+// 32 bits, read as signed: written so that the compiler sees the conversion of a signed word.
+fn reading_32(x: u32) -> i64
+    ensures { result ≡ signed_of 31 x }
+{
+    x.wrapping_add(0x8000_0000) as i64 - 0x8000_0000
+}
 
 // The upper 32 - k bits with their sign: a shift that keeps it.
 fn extend(x: u32, k: u32) -> u64
     requires { k < 32 }
     ensures { result ≡ extended (31 - k) (x / 2 ^ k) }
 {
-    pattern(reading_32(x) >> k)
+    (reading_32(x) >> k).cast_unsigned()
 }
 
 pub fn extend_8(x: u8) -> u64

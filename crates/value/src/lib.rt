@@ -4,6 +4,5 @@
 pub mod forty; // the low 40 bits, as `Value40`
 pub mod product; // Mulh
 pub mod division; // Div, Divu, Rem, Remu
-mod signed; // signed numbers and their patterns
 pub mod extension; // signs of loads, immediates and offsets
 pub mod address; // register plus immediate, modulo 2^64

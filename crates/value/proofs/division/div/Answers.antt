@@ -13,6 +13,6 @@ returns-then-overflows c =
 pub returns : goal.returns
 returns c =
     let start = c.before in
-    c.pattern.ensures
-    ∙ quotient start.args.a start.args.b (omega arith) (omega arith) _ _ c.reading-x.ensures c.reading-y.ensures
+    c.cast_unsigned.ensures
+    ∙ quotient start.args.a start.args.b (omega arith) (omega arith) _ _ c.cast_signed.ensures c.cast_signed-2.ensures
     (c.overflows.ensures.1 c.if-overflows.false)
