@@ -42,6 +42,13 @@ pub column_fits : (sum before base : ℕ) → sum < 2 ^ 63 → Fits w64 before �
 column_fits sum before base s f b =
     record { fits = omega (arith, f.fits, mul-div-le before base, mul-le-mul_right (before / base) b) }
 
+-- with a sum both that it adds fit (docs/changes/A4.md names the two)
+pub left-fits : (x y : ℕ) → Fits w64 (x + y) → Fits w64 x
+left-fits x y f = record { fits = omega (arith, f.fits) }
+
+pub right-fits : (x y : ℕ) → Fits w64 (x + y) → Fits w64 y
+right-fits x y f = record { fits = omega (arith, f.fits) }
+
 -- what four columns amount to
 abbrev joined : (ℕ → ℕ) → ℕ
 joined x = x 3 * 2 ^ 60 + x 2 * 2 ^ 40 + x 1 * 2 ^ 20 + x 0
