@@ -100,22 +100,19 @@ fn both(a: bool, b: bool) -> bool
 pub fn read(bytes: &[u8]) -> Reading
     ensures { result ≡ read_in bytes.now }
 {
-    let mut values = [0; 16];
-    let mut accumulated = [false; 16];
-    let mut bounds = [0; 16];
+    let mut registers = Registers {
+        values: [0; 16],
+        accumulated: [false; 16],
+        bounds: [0; 16],
+    };
     let mut laid = header_laid(bytes);
     for i in 0..16 {
         let p = parts_at(bytes, HEADER_BYTES + RECORD_BYTES * i);
-        values[i] = kept_by(p.kind, p.first, p.second);
-        accumulated[i] = p.kind == 1;
-        bounds[i] = p.bound;
+        registers.values[i] = kept_by(p.kind, p.first, p.second);
+        registers.accumulated[i] = p.kind == 1;
+        registers.bounds[i] = p.bound;
         laid = both(parts_laid(p), laid);
     }
-    let registers = Registers {
-        values,
-        accumulated,
-        bounds,
-    };
     let pc = number_at(bytes, 0, 8);
     let halted = number_at(bytes, 8, 1) == 1;
     let state = state::together(pc, halted, registers);
