@@ -16,9 +16,7 @@ pub(crate) fn word_at(m: &[u8], at: usize, n: usize) -> u64
     ensures { (result ≡ number_at n m.now at) × (result < 256 ^ n) }
 {
     let mut v: u64 = 0;
-    let mut i = n;
-    while 0 < i {
-        i -= 1;
+    for i in (0..n).rev() {
         v = v * 256 + m[at + i] as u64;
     }
     v
@@ -46,11 +44,9 @@ pub(crate) fn store_at(m: &mut [u8], at: usize, n: usize, value: u64)
     ensures { m.new ≡ put_at n m.old at value }
 {
     let mut v = value;
-    let mut i: usize = 0;
-    while i < n {
+    for i in 0..n {
         m[at + i] = (v % 256) as u8;
         v = v / 256;
-        i += 1;
     }
 }
 

@@ -11,11 +11,11 @@ pub loop-i-preserved : goal.loop-i-preserved
 loop-i-preserved c =
     let a = c.args in
     let l = c.loop-i in
-    (simp length-set l.invariant.0, search rules, sym (store-more l.m a.at a.n l.i l.v (search rules)) ∙ l.invariant.2)
+    (simp length-set l.invariant.0, sym (store-more l.m a.at a.n l.i l.v (search rules)) ∙ l.invariant.1)
 
 pub returns : goal.returns
 unfolding bytes
 returns c =
     let l = c.loop-i in
     let z : l.i ≡ c.args.n = omega arith in
-    rw (z, sub_self) at l.invariant.2
+    rw (z, sub_self) at l.invariant.1
