@@ -58,15 +58,8 @@ pub fn lacks(room: Room, checks: usize) -> bool
     }
 }
 
-fn put_number(list: &mut [u64], at: usize, v: u64)
-    ensures { list.new ≡ set list.old at v }
-{
-    if at < list.len() {
-        list[at] = v;
-    }
-}
-
-fn put_bound(list: &mut [u8], at: usize, v: u8)
+// Writes an entry, where there is such a place.
+fn put<T: Copy>(list: &mut [T], at: usize, v: T)
     ensures { list.new ≡ set list.old at v }
 {
     if at < list.len() {
@@ -89,9 +82,9 @@ fn note(
     if values.len() <= count {
         return count;
     }
-    put_number(values, count, value);
-    put_bound(bounds, count, bound);
-    put_number(pcs, count, pc);
+    put(values, count, value);
+    put(bounds, count, bound);
+    put(pcs, count, pc);
     count + 1
 }
 

@@ -6,4 +6,4 @@ pub returns-then-values-count : goal.returns-then-values-count
 returns-then-values-count c = no_place _ _ _ _ (omega arith)
 
 pub returns : goal.returns
-returns c = rw (c.put_number.ensures, c.put_bound.ensures, c.put_number-2.ensures) (a-place _ _ _ _ (omega arith))
+returns c = rw (c.put.ensures, c.put-2.ensures, c.put-3.ensures) (a-place _ _ _ _ (omega arith))
