@@ -2,7 +2,7 @@
 // registers.
 #![tactic(auto)]
 
-ghost use Rattle.std.specs.Prelude.{◌≡◌, ◌/◌, ◌^◌};
+ghost use Rattle.std.specs.Prelude.{◌≡◌, ◌/◌, ◌^◌, ◌<◌};
 ghost use Rattle.encoding.specs.Fields.{fits_in};
 ghost use Rattle.opcode.specs.Opcodes.{form_of};
 ghost use Rattle.forms.specs.Forms.{used_bits, immediate_of, imm_fits};
@@ -70,17 +70,12 @@ pub fn immediate(f: Form, word: u32) -> u64
     }
 }
 
-// -2^16 to 2^16 - 1 and -2^20 to 2^20 - 1, by one sum and one comparison.
-fn fits_17(imm: u64) -> bool
-    ensures { result ≡ fits_in 16 imm }
+// -2^SIGN to 2^SIGN - 1, by one sum and one comparison.
+fn fits<const SIGN: u32>(imm: u64) -> bool
+    requires { SIGN < 63 }
+    ensures { result ≡ fits_in SIGN imm }
 {
-    imm.wrapping_add(0x1_0000) < 0x2_0000
-}
-
-fn fits_21(imm: u64) -> bool
-    ensures { result ≡ fits_in 20 imm }
-{
-    imm.wrapping_add(0x10_0000) < 0x20_0000
+    imm.wrapping_add(1 << SIGN) < 2 << SIGN
 }
 
 // Whether the field of a form holds a number.
@@ -89,9 +84,9 @@ pub fn imm_fits(f: Form, imm: u64) -> bool
     ensures { result ≡ imm_fits f imm }
 {
     match f {
-        Form::I | Form::S | Form::B => fits_17(imm),
+        Form::I | Form::S | Form::B => fits::<16>(imm),
         Form::Shift => imm < 64,
-        Form::J => fits_21(imm),
+        Form::J => fits::<20>(imm),
         Form::R | Form::Alone => true,
     }
 }

@@ -1,6 +1,0 @@
-use Rattle.encoding.proofs.Extends.{fits-test}
-use Rattle.std.proofs.Common.{arith}
-use Rattle.forms.proofs.fits_21.Goals as goal
-
-pub returns : goal.returns
-returns c = fits-test 20 (omega arith) c.args.imm (omega arith)
