@@ -51,12 +51,6 @@ pub fn unused(f: Form, word: u32) -> u32
     }
 }
 
-fn wide(x: u32) -> u64
-    ensures { result ≡ x }
-{
-    x as u64
-}
-
 // The immediate or offset with its sign, as an instruction holds it.
 #[tactic(auto, unfolding(crate::specs::Forms::immediate_of))]
 pub fn immediate(f: Form, word: u32) -> u64
@@ -64,7 +58,7 @@ pub fn immediate(f: Form, word: u32) -> u64
 {
     match f {
         Form::I | Form::S | Form::B => value::extension::extend_17(word >> fields::IMM_SHIFT),
-        Form::Shift => wide(fields::extract_imm(word)),
+        Form::Shift => fields::extract_imm(word) as u64,
         Form::J => value::extension::extend_21(word >> fields::OFFSET_SHIFT),
         Form::R | Form::Alone => 0,
     }

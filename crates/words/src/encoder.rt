@@ -16,36 +16,18 @@ fn parts_fit(p: Parts) -> bool
     (p.a < 16) & (p.b < 16) & (p.c < 16) & imm_fits(form_of(op), p.imm)
 }
 
-fn whole(x: u8) -> u32
-    ensures { result ≡ x }
-{
-    x as u32
-}
-
-fn low_17(imm: u64) -> u32
-    ensures { result ≡ imm % 2 ^ 17 }
-{
-    (imm % 0x2_0000) as u32
-}
-
-fn low_21(imm: u64) -> u32
-    ensures { result ≡ imm % 2 ^ 21 }
-{
-    (imm % 0x20_0000) as u32
-}
-
 // The word of a number and operands, by the raw encoder of the form.
 fn word_of(f: Form, n: u32, p: Parts) -> u32
     ensures { result ≡ word_of f n p }
 {
-    let a = whole(p.a);
-    let b = whole(p.b);
+    let a = p.a as u32;
+    let b = p.b as u32;
     match f {
-        Form::R => encode_rtype(n, a, b, whole(p.c), 0),
-        Form::I | Form::Shift => encode_itype(n, a, b, low_17(p.imm)),
-        Form::S => encode_stype(n, a, b, low_17(p.imm)),
-        Form::B => encode_btype(n, a, b, low_17(p.imm)),
-        Form::J => encode_jtype(n, a, low_21(p.imm)),
+        Form::R => encode_rtype(n, a, b, p.c as u32, 0),
+        Form::I | Form::Shift => encode_itype(n, a, b, (p.imm % 0x2_0000) as u32),
+        Form::S => encode_stype(n, a, b, (p.imm % 0x2_0000) as u32),
+        Form::B => encode_btype(n, a, b, (p.imm % 0x2_0000) as u32),
+        Form::J => encode_jtype(n, a, (p.imm % 0x20_0000) as u32),
         Form::Alone => encode_rtype(n, 0, 0, 0, 0),
     }
 }
@@ -56,7 +38,7 @@ pub fn encode_parts(p: Parts) -> Result<u32, Refusal>
 {
     let op = p.op;
     if parts_fit(p) {
-        Ok(word_of(form_of(op), whole(opcode_number(op)), p))
+        Ok(word_of(form_of(op), opcode_number(op) as u32, p))
     } else {
         Err(Refusal::Malformed)
     }

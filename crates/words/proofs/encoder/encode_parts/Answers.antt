@@ -3,7 +3,7 @@ use Rattle.words.proofs.encoder.encode_parts.Goals as goal
 
 pub returns-then-parts_fit : goal.returns-then-parts_fit
 unfolding encoded_in
-returns-then-parts_fit c = rw (← c.parts_fit.ensures, c.if-parts_fit.true, c.word_of.ensures, c.whole.ensures, c.opcode_number.ensures, c.form_of.ensures)
+returns-then-parts_fit c = rw (← c.parts_fit.ensures, c.if-parts_fit.true, c.word_of.ensures, c.opcode_number.ensures, c.form_of.ensures)
 
 pub returns-else-parts_fit : goal.returns-else-parts_fit
 unfolding encoded_in
