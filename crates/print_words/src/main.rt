@@ -8,11 +8,11 @@ use std::io::Write;
 // As many as memory has.
 const BYTES: usize = 65_536;
 
-// The most bytes that a line has, for each word.
-const LINE: usize = 22;
+// A line has at most 22 bytes, for each four.
+const TEXT: usize = 360_448;
 
 fn print(rt: &(impl Print + Eprint + AllocGlobal), words: &[u8]) -> io::Result<()> {
-    let mut text = vec![in rt.alloc(); 0u8; words.len() / 4 * LINE]?;
+    let mut text = vec![in rt.alloc(); 0u8; TEXT]?;
     let told = printing::print(words, &mut text);
     match told.code {
         0 => {
