@@ -6,7 +6,8 @@ use lib.ListN.{get_or}
 use native.Mathlib.Omega.{arith}
 use Rattle.value.specs.Forty.{add40, sub40}
 use Rattle.state.specs.Held.{Held, Whole, value_of, low_of, high_of, settled}
-use Rattle.state.specs.Registers.{Registers, put, holds, noted}
+use Rattle.state.specs.declared.registers.Registers.{Registers}
+use Rattle.state.specs.Registers.{put, holds, noted}
 use Rattle.effect.specs.Operations.{plus64}
 use Rattle.effect.specs.Notes.{Notes}
 use Rattle.effect.specs.Effects.{seen, writing, effect}

@@ -7,8 +7,9 @@ use lib.Dec.{eqb, lit<}
 use native.Mathlib.Omega.{arith}
 use Rattle.memory.specs.Bytes.{bit, number_of_bytes, bytes}
 use Rattle.state.specs.Held.{Held, Whole, Limbs, low_of, high_of, value_of, held_of, kept, waits}
-use Rattle.state.specs.Registers.{Registers, registers, holds, noted}
-use Rattle.state.specs.Formed.{well_formed, registers_of}
+use Rattle.state.specs.declared.registers.Registers.{Registers}
+use Rattle.state.specs.Registers.{registers, holds, noted}
+use Rattle.state.specs.Formed.{well_formed}
 use Rattle.state.specs.declared.State.{State}
 use Rattle.execute.specs.World.{World, world, world_of}
 use Rattle.layout.specs.Layout.{header_bytes, kind_of, first_of, second_of, record_bytes, records, state_bytes, held_by, table, state_in}
@@ -28,13 +29,11 @@ held_again h = held_by (again 1 (kind_of h)) (again 8 (first_of h)) (again 8 (se
 
 abbrev state_again : State → State
 state_again s =
-    let R = registers_of s in
+    let R = s.registers in
     record {
       pc = again 8 s.pc;
       halted = eqb (again 1 (bit s.halted)) 1;
-      regs = table 16 0 (λ i. kept (held_again (holds R i)));
-      accumulated = table 16 0 (λ i. waits (held_again (holds R i)));
-      bounds = table 16 0 (λ i. again 1 (noted R i));
+      registers = registers (table 16 0 (λ i. kept (held_again (holds R i)))) (table 16 0 (λ i. waits (held_again (holds R i)))) (table 16 0 (λ i. again 1 (noted R i)));
     }
 
 state-again : (s : State) → state_in (state_bytes s) ≡ state_again s

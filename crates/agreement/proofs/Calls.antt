@@ -8,7 +8,7 @@ use lib.Dec.{eqb}
 use native.Mathlib.Omega.{arith}
 use Rattle.pending.specs.Pending.{no_lists}
 use Rattle.refusal.specs.Stops.{code_of, particular_at}
-use Rattle.state.specs.Formed.{well_formed, all_whole, registers_of}
+use Rattle.state.specs.Formed.{well_formed, all_whole}
 use Rattle.execute.specs.World.{World, world_of}
 use Rattle.execute.specs.Execute.{admits}
 use Rattle.execute.specs.declared.Mode.{Mode}
@@ -35,28 +35,28 @@ served-reads a e =
     ap (λ (w : World). record { code = code_of a.stop; world = w; answer = answer_bytes (code_of a.stop) a.steps (particular_at a.stop) })
     (bytes_read a.world e)
 
-module _ (st m an : List ℕ) (fuel : ℕ) (whole : all_whole (state_in st).accumulated ≡ true) where
+module _ (st m an : List ℕ) (fuel : ℕ) (whole : all_whole (state_in st).registers.accumulated ≡ true) where
   taken-alike : call_taken st an 1 ≡ call_taken st an 0
   unfolding call_taken mode_of
-  taken-alike = ap (λ (t : Bool). eqb (length an) ANSWER_BYTES && true && well_laid st && t) (admits-alike (registers_of (state_in st)) whole)
+  taken-alike = ap (λ (t : Bool). eqb (length an) ANSWER_BYTES && true && well_laid st && t) (admits-alike (state_in st).registers whole)
 
-  taken-formed : call_taken st an 0 ≡ true → well_formed (registers_of (state_in st)) ≡ true
+  taken-formed : call_taken st an 0 ≡ true → well_formed (state_in st).registers ≡ true
   unfolding call_taken mode_of admits
   taken-formed t =
-      let R = registers_of (state_in st) in
+      let R = (state_in st).registers in
       (both_true (well_formed R) (all_whole R.accumulated) (both_true (eqb (length an) ANSWER_BYTES && true && well_laid st) (admits Plain R) t).1).0
 
-  sized : Sized (registers_of (state_in st))
+  sized : Sized (state_in st).registers
   unfolding state_in table
   sized = omega arith
 
   abbrev ran_by : Mode → Answer
   ran_by k = run k document_rules fuel (world_of (state_in st) m) no_lists
 
-  run-reads : (k : Mode) → well_formed (registers_of (state_in st)) ≡ true → read_call (call_served (ran_by k)) ≡ told (read_answer (ran_by k))
+  run-reads : (k : Mode) → well_formed (state_in st).registers ≡ true → read_call (call_served (ran_by k)) ≡ told (read_answer (ran_by k))
   run-reads k e = served-reads (ran_by k) (formed-after-run document_rules document-capped k fuel (world_of (state_in st) m) no_lists e)
 
-  served-alike : well_formed (registers_of (state_in st)) ≡ true → read_call (call_served (ran_on 1 fuel (state_in st) m)) ≡ read_call (call_served (ran_on 0 fuel (state_in st) m))
+  served-alike : well_formed (state_in st).registers ≡ true → read_call (call_served (ran_on 1 fuel (state_in st) m)) ≡ read_call (call_served (ran_on 0 fuel (state_in st) m))
   unfolding mode_of
   served-alike e = run-reads Deferred e ∙ ap told (runs-agree document_rules fuel (world_of (state_in st) m) sized whole) ∙ sym (run-reads Plain e)
 

@@ -1,4 +1,5 @@
 -- The bound that an effect writes is at most 64, where the notes are; and document 01's notes are.
+use Rattle.std.specs.Prelude.{Err, Ok, Result, ⊤}
 use Prim.Native.Nat.{ℕ, ◌≤◌, ◌%◌}
 use mathlib.Core.Path.{◌≡◌, refl}
 use mathlib.Core.List.{List}
@@ -6,10 +7,6 @@ use native.Mathlib.Omega.{arith}
 use lib.Dec.{leb, eqb}
 use Rattle.refusal.specs.declared.Refusal.{Refusal}
 use Rattle.bound.specs.Bits.{bits_of, after_srl}
-use Rattle.memory.specs.declared.Loaded.{Loaded}
-use Rattle.memory.specs.declared.Loaded.TheVariants as L
-use Rattle.memory.specs.declared.Stored.{Stored}
-use Rattle.memory.specs.declared.Stored.TheVariants as S
 use Rattle.effect.specs.Notes.{Notes, result_bits, document_notes}
 use Rattle.effect.specs.Operations.{moves}
 use Rattle.effect.specs.Effects.{Seen, dividing, moving, on_loaded, on_storable, loading, storing, effect}
@@ -28,15 +25,15 @@ data Bounded : Outcome → Type 0 where
 goes : {e : Effect} → e.bound ≡ 0 → Bounded (Does e)
 goes {e} z = let l : e.bound ≤ 64 = omega arith in does l
 
-bounded-loaded : (f : ℕ → Outcome) (l : Loaded) → ((v : ℕ) → Bounded (f v)) → Bounded (on_loaded f l)
+bounded-loaded : (f : ℕ → Outcome) (l : Result ℕ Refusal) → ((v : ℕ) → Bounded (f v)) → Bounded (on_loaded f l)
 unfolding on_loaded
-bounded-loaded f (L.Value v) h = h v
-bounded-loaded f (L.Refused r) h = refuses
+bounded-loaded f (Ok v) h = h v
+bounded-loaded f (Err r) h = refuses
 
-bounded-storable : (o : Outcome) (s : Stored) → Bounded o → Bounded (on_storable o s)
+bounded-storable : (o : Outcome) (s : Result ⊤ Refusal) → Bounded o → Bounded (on_storable o s)
 unfolding on_storable
-bounded-storable o S.Done h = h
-bounded-storable o (S.Refused r) h = refuses
+bounded-storable o (Ok tt) h = h
+bounded-storable o (Err r) h = refuses
 
 module _ (N : Notes) (c : Capped N) where
   effect-bounded : (i : Instruction) (v : Seen) (m : List ℕ) → Bounded (effect N i v m)

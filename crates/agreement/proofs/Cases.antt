@@ -1,17 +1,15 @@
 -- The cases of a test, of the instructions by their limb forms, and of a step.
+use Rattle.std.specs.Prelude.{Err, Ok, Result}
 use Prim.Native.Nat.{ℕ}
 use mathlib.Core.Path.{◌≡◌, refl}
 use mathlib.Core.Bool.{Bool, true, false, cond}
 use Rattle.refusal.specs.declared.Refusal.{Refusal}
 use Rattle.memory.specs.Memory.{fetch_of}
-use Rattle.memory.specs.declared.Fetched.{Fetched}
-use Rattle.memory.specs.declared.Fetched.TheVariants as F
-use Rattle.state.specs.Registers.{Registers, holds}
+use Rattle.state.specs.declared.registers.Registers.{Registers}
+use Rattle.state.specs.Registers.{holds}
 use Rattle.effect.specs.Notes.{Notes}
 use Rattle.deferred.specs.Limbs.{Limbed, limbed, added, added_imm, covers, subtracted, limbs}
 use Rattle.words.specs.Words.{decode_in}
-use Rattle.words.specs.declared.Decoded.{Decoded}
-use Rattle.words.specs.declared.Decoded.TheVariants as D
 use Rattle.execute.specs.World.{World, Stepped, refused}
 use Rattle.execute.specs.Execute.{execute}
 use Rattle.execute.specs.Rules.{Rules, obey}
@@ -57,15 +55,15 @@ module _ (N : Notes) (R : Registers) (P : Instruction → Limbed → Type 0)
 module _ (P : World → Stepped → Type 0) (k : Mode) (room : Room) (R : Rules)
     (refuses : (r : Refusal) (w : World) → P w (refused r w))
     (executes : (i : Instruction) (w : World) → P w (execute k room R.notes i w)) where
-  obey-case : (d : Decoded) (w : World) → P w (obey k room R d w)
+  obey-case : (d : Result Instruction Refusal) (w : World) → P w (obey k room R d w)
   unfolding obey
-  obey-case (D.Instruction i) w = executes i w
-  obey-case (D.Refused r) w = refuses r w
+  obey-case (Ok i) w = executes i w
+  obey-case (Err r) w = refuses r w
 
-  fetched-case : (f : Fetched) (w : World) → P w (fetched k room R f w)
+  fetched-case : (f : Result ℕ Refusal) (w : World) → P w (fetched k room R f w)
   unfolding fetched
-  fetched-case (F.Word x) w = obey-case (decode_in R.number x) w
-  fetched-case (F.Refused r) w = refuses r w
+  fetched-case (Ok x) w = obey-case (decode_in R.number x) w
+  fetched-case (Err r) w = refuses r w
 
   pub step_case : (w : World) → P w (step_in k room R w)
   step_case w = fetched-case (fetch_of w.memory w.pc) w

@@ -20,10 +20,10 @@ use Rattle.agreement.specs.Statements.{AnswersAgree, HostCallsAgree}
 use Rattle.agreement.proofs.Runs.{runs-agree}
 use Rattle.agreement.proofs.Calls.{calls-agree}
 
--- the length of the state's fourth field, by its type
+-- the length of the marks, by the state's type
 sized : (κs : Lfts 4) (a : Args run_deferred.signature κs) → GoodsP κs run_deferred_told.Kinds.ps a → Sized (world_given κs a).registers
 sized κs a g =
-    let long : length a.0.accumulated ≡ 16 = g.0.1.1.1.1.1.0.1.0.1 in
+    let long : length a.0.registers.accumulated ≡ 16 = g.0.1.1.1.1.0.1.1.1.0.1.0.1 in
     omega arith
 
 pub answers_agree : AnswersAgree

@@ -10,7 +10,8 @@ use lib.ListN.{get_or, set}
 use lib.Seq.{get_or-set_other}
 use borrow.Author.Tests.{ltb-true, leb-true, eqb-true, lt-ltb, le-leb}
 use Rattle.state.specs.Held.{Held, Whole, Limbs, low_of, high_of, held_of, kept, waits}
-use Rattle.state.specs.Registers.{Registers, holds, noted, place, put, normalise}
+use Rattle.state.specs.declared.registers.Registers.{Registers}
+use Rattle.state.specs.Registers.{holds, noted, place, put, normalise}
 use Rattle.state.specs.Formed.{limbs_fit, is_zero, register_fits, zero_fits, all_below, well_formed}
 use Rattle.state.proofs.Normal.{settled-whole, whole-limbs, held_kept}
 use Rattle.agreement.specs.Keeping.{SmallLimbs}

@@ -7,7 +7,8 @@ use lib.ListN.{length, get_or}
 use lib.Seq.{get_or-set_same}
 use native.Mathlib.Omega.{arith}
 use Rattle.state.specs.Held.{Held, low_of, high_of, held_of, kept, waits, settled}
-use Rattle.state.specs.Registers.{Registers, holds, place, put}
+use Rattle.state.specs.declared.registers.Registers.{Registers}
+use Rattle.state.specs.Registers.{holds, place, put}
 use Rattle.state.proofs.Normal.{held_kept}
 use Rattle.deferred.specs.Limbs.{sum_of, sum_fits, sum_into}
 use Rattle.deferred.proofs.Waiting.{fits-true}

@@ -1,4 +1,5 @@
 -- What a step or a run leaves is in numbers of 64 bits, bounds of 8 and bytes, where it was so before.
+use Rattle.std.specs.Prelude.{Err, Ok, Result, ⊤}
 use Prim.Native.Nat.{ℕ, zero, suc, ◌+◌, ◌*◌, ◌/◌, ◌%◌, ◌^◌, ◌<◌}
 use mathlib.Core.Path.{◌≡◌, refl}
 use mathlib.Core.Bool.{Bool, true, false}
@@ -11,12 +12,10 @@ use Rattle.memory.specs.Bytes.{bytes, number_at, put_at}
 use Rattle.memory.specs.Memory.{size_of, access_of, on_access, store_of, on_stored}
 use Rattle.memory.specs.declared.Access.{Access}
 use Rattle.memory.specs.declared.Access.TheVariants.{Served, Beyond, Misaligned}
-use Rattle.memory.specs.declared.Loaded.TheVariants as L
-use Rattle.memory.specs.declared.Stored.{Stored}
-use Rattle.memory.specs.declared.Stored.TheVariants as S
 use Rattle.memory.proofs.Numbers.{Small}
 use Rattle.state.specs.Held.{Held, Whole, Limbs, low_of, high_of, value_of, held_of, kept}
-use Rattle.state.specs.Registers.{Registers, holds, noted, place, put, normalise}
+use Rattle.state.specs.declared.registers.Registers.{Registers}
+use Rattle.state.specs.Registers.{holds, noted, place, put, normalise}
 use Rattle.state.proofs.Normal.{settled-whole}
 use Rattle.effect.specs.Notes.{Notes}
 use Rattle.effect.specs.Operations.{plus64, register_form, moves, load_size, store_size}
@@ -109,10 +108,10 @@ unfolding bytes
 small_put zero m at v h = h
 small_put (suc n) m at v h = small_put n (set m at (v % 256)) (suc at) (v / 256) (λ j. set_keeps (λ b. b < 256) m at (v % 256) j (omega arith) (h j))
 
-small-stored : (s : Stored) (after m : List ℕ) → Small after → Small m → Small (on_stored after m s)
+small-stored : (s : Result ⊤ Refusal) (after m : List ℕ) → Small after → Small m → Small (on_stored after m s)
 unfolding on_stored
-small-stored S.Done after m p h = p
-small-stored (S.Refused r) after m p h = h
+small-stored (Ok tt) after m p h = p
+small-stored (Err r) after m p h = h
 
 -- ---- effects
 abbrev Fitting : List ℕ → Outcome → Type 0
@@ -120,16 +119,16 @@ Fitting m (Does e) = (e.value < 2 ^ 64) × (e.next < 2 ^ 64) × Small (keeping e
 Fitting m (Refuses r) = Unit
 
 fitting-loaded : (m : List ℕ) (f : ℕ → Outcome) (n : ℕ) (r s : Refusal) (a : Access) → Fitting m (f n)
-    → Fitting m (on_loaded f (on_access (L.Value n) (L.Refused r) (L.Refused s) a))
+    → Fitting m (on_loaded f (on_access (Ok n) (Err r) (Err s) a))
 unfolding on_loaded on_access
 fitting-loaded m f n r s Served h = h
 fitting-loaded m f n r s Beyond h = tt
 fitting-loaded m f n r s Misaligned h = tt
 
-fitting-storable : (m : List ℕ) (o : Outcome) (s : Stored) → Fitting m o → Fitting m (on_storable o s)
+fitting-storable : (m : List ℕ) (o : Outcome) (s : Result ⊤ Refusal) → Fitting m o → Fitting m (on_storable o s)
 unfolding on_storable
-fitting-storable m o S.Done h = h
-fitting-storable m o (S.Refused r) h = tt
+fitting-storable m o (Ok tt) h = h
+fitting-storable m o (Err r) h = tt
 
 module _ (N : Notes) (v : Seen) (m : List ℕ) (pc : v.pc < 2 ^ 64) (values : (n : ℕ) → v.value n < 2 ^ 64) (small : Small m) where
   effect-fitting : (i : Instruction) → Fitting m (effect N i v m)
@@ -167,10 +166,10 @@ in-bits pc halted R m p h s =
       state =
           record {
             pc-fits = p;
-            regs_long = h.values-long;
+            values_long = h.values-long;
             accumulated-long = h.marks-long;
             bounds-long = h.bounds-long;
-            reg-fits = h.value-fits;
+            value-fits = h.value-fits;
             bound-fits = h.bound-fits;
           };
       bytes = s;
@@ -179,10 +178,10 @@ in-bits pc halted R m p h s =
 wide : (w : World) → InBits w → Wide w.registers
 wide w h =
     record {
-      values-long = h.state.regs_long;
+      values-long = h.state.values_long;
       marks-long = h.state.accumulated-long;
       bounds-long = h.state.bounds-long;
-      value-fits = h.state.reg-fits;
+      value-fits = h.state.value-fits;
       bound-fits = h.state.bound-fits;
     }
 

@@ -5,7 +5,8 @@ use mathlib.Core.Bool.{◌&&◌}
 use mathlib.Core.List.{List, [], ◌∷◌}
 use lib.ListN.{length}
 use Rattle.state.specs.Held.{Held, Whole}
-use Rattle.state.specs.Registers.{Registers, put, normalise}
+use Rattle.state.specs.declared.registers.Registers.{Registers}
+use Rattle.state.specs.Registers.{put, normalise}
 use Rattle.effect.specs.Notes.{Notes}
 use Rattle.effect.specs.Effects.{Seen, effect}
 use Rattle.effect.specs.Outcomes.{Effect, Outcome, Does, Refuses}

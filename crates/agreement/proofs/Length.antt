@@ -1,4 +1,6 @@
 -- Memory keeps its length.
+use Rattle.std.specs.Prelude.{Err, Ok, Result, ⊤}
+use Rattle.refusal.specs.declared.Refusal.{Refusal}
 use Prim.Native.Nat.{ℕ}
 use mathlib.Core.Path.{◌≡◌, refl, ◌∙◌}
 use mathlib.Core.List.{List}
@@ -6,9 +8,7 @@ use lib.ListN.{length}
 use lib.Seq.{length-sets}
 use Rattle.memory.specs.Bytes.{bytes}
 use Rattle.memory.specs.Memory.{size_of, on_stored, store_of}
-use Rattle.memory.specs.declared.Stored.{Stored}
-use Rattle.memory.specs.declared.Stored.TheVariants as S
-use Rattle.state.specs.Registers.{Registers}
+use Rattle.state.specs.declared.registers.Registers.{Registers}
 use Rattle.effect.specs.Notes.{Notes}
 use Rattle.effect.specs.Outcomes.{Stores, Nothing, Bytes, Outcome, Does, Refuses}
 use Rattle.instruction.specs.declared.Instruction.{Instruction}
@@ -22,10 +22,10 @@ use Rattle.agreement.specs.Statements.{RunsKeepLength}
 use Rattle.agreement.proofs.Cases.{cond-case}
 use Rattle.agreement.proofs.Keeping.{run-keeps}
 
-length-stored : (s : Stored) (after m : List ℕ) → length after ≡ length m → length (on_stored after m s) ≡ length m
+length-stored : (s : Result ⊤ Refusal) (after m : List ℕ) → length after ≡ length m → length (on_stored after m s) ≡ length m
 unfolding on_stored
-length-stored S.Done after m e = e
-length-stored (S.Refused r) after m e = refl
+length-stored (Ok tt) after m e = e
+length-stored (Err r) after m e = refl
 
 length-kept : (s : Stores) (m : List ℕ) → length (keeping s m) ≡ length m
 length-kept Nothing m = refl

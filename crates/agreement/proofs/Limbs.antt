@@ -1,7 +1,7 @@
 -- Under document 01's rules every limb stays below 2^30, and so by the contracts of `step`, `run_deferred` and `run_plain`.
 use mathlib.Core.Path.{◌≡◌, subst⁻¹}
 use mathlib.Core.Bool.{true}
-use Rattle.state.specs.Registers.{Registers}
+use Rattle.state.specs.declared.registers.Registers.{Registers}
 use Rattle.state.specs.Formed.{well_formed}
 use Rattle.execute.specs.Rules.{document_rules}
 use Rattle.step.specs.Step.{Left}

@@ -1,4 +1,5 @@
 -- Refusal 2 names the first byte that is missing.
+use Rattle.std.specs.Prelude.{Err, Ok, Result}
 use Prim.Native.Nat.{ℕ, zero, suc, ◌+◌, ◌%◌, ◌<◌}
 use mathlib.Core.Path.{◌≡◌, refl, sym, ap, ◌∙◌}
 use mathlib.Core.Bool.{Bool, true, false, cond, ◌&&◌}
@@ -16,14 +17,9 @@ use Rattle.memory.specs.declared.Size.{Size}
 use Rattle.memory.specs.declared.Size.TheVariants.{Byte, Half, Word, Double}
 use Rattle.memory.specs.declared.Access.{Access}
 use Rattle.memory.specs.declared.Access.TheVariants.{Served, Beyond, Misaligned}
-use Rattle.memory.specs.declared.Loaded.TheVariants as L
-use Rattle.memory.specs.declared.Stored.TheVariants as M
-use Rattle.memory.specs.declared.Fetched.TheVariants as F
 use Rattle.words.specs.Words.{decode_in}
 use Rattle.words.proofs.Refused.{decoded-refused}
-use Rattle.words.specs.declared.Decoded.{Decoded}
-use Rattle.words.specs.declared.Decoded.TheVariants as D
-use Rattle.state.specs.Registers.{Registers}
+use Rattle.state.specs.declared.registers.Registers.{Registers}
 use Rattle.effect.specs.Operations.{plus64, moves, load_size, store_size}
 use Rattle.effect.specs.Notes.{Notes}
 use Rattle.effect.specs.Effects.{Seen, seen, dividing, moving, on_loaded, on_storable, loading, storing, effect}
@@ -94,14 +90,14 @@ module _ (m : List ℕ) (address : ℕ) (size : Size) (P : ℕ → Type 0)
   beyond-names e = names (first m address (size_of size) (some_bytes size) (beyond-short _ _ _ e))
 
   load-names : (f : ℕ → Outcome) (v : ℕ) → Names P (f v) → (a : Access) → access ≡ a
-      → Names P (on_loaded f (on_access (L.Value v) (L.Refused (refusal_of 2 (beyond_at (length m) address))) (L.Refused (refusal_of 3 address)) a))
+      → Names P (on_loaded f (on_access (Ok v) (Err (refusal_of 2 (beyond_at (length m) address))) (Err (refusal_of 3 address)) a))
   unfolding on_loaded on_access
   load-names f v h Served e = h
   load-names f v h Beyond e = refuses (λ _. beyond-names e)
   load-names f v h Misaligned e = refuses (other 3 refl)
 
   store-names : (o : Outcome) → Names P o → (a : Access) → access ≡ a
-      → Names P (on_storable o (on_access M.Done (M.Refused (refusal_of 2 (beyond_at (length m) address))) (M.Refused (refusal_of 3 address)) a))
+      → Names P (on_storable o (on_access (Ok tt) (Err (refusal_of 2 (beyond_at (length m) address))) (Err (refusal_of 3 address)) a))
   unfolding on_storable on_access
   store-names o h Served e = h
   store-names o h Beyond e = refuses (λ _. beyond-names e)
@@ -163,15 +159,15 @@ instructions-name k room N i w =
 
 -- ---- a step: a word is refused 4 or 5 as it is decoded, 6 or 7 as it is fetched
 module _ (k : Mode) (room : Room) (R : Rules) (w : World) where
-  obey-names : (d : Decoded) → decode_in R.number (number_at 4 w.memory w.pc) ≡ d → StepNames (LacksAtPc R w) (obey k room R d w)
+  obey-names : (d : Result Instruction Refusal) → decode_in R.number (number_at 4 w.memory w.pc) ≡ d → StepNames (LacksAtPc R w) (obey k room R d w)
   unfolding obey
-  obey-names (D.Instruction i) e r p two = record { instruction = i; fetched = e; lacks = instructions-name k room R.notes i w r p two }
-  obey-names (D.Refused q) e r p two =
+  obey-names (Ok i) e r p two = record { instruction = i; fetched = e; lacks = instructions-name k room R.notes i w r p two }
+  obey-names (Err q) e r p two =
       refused-names (LacksAtPc R w) q w (λ h. let number = decoded-refused _ _ q e in absurd (omega arith)) r p two
 
   fetched-names : (a : Access)
       → StepNames (LacksAtPc R w)
-      (fetched k room R (on_access (F.Word (number_at 4 w.memory w.pc)) (F.Refused (refusal_of 7 w.pc)) (F.Refused (refusal_of 6 w.pc)) a) w)
+      (fetched k room R (on_access (Ok (number_at 4 w.memory w.pc)) (Err (refusal_of 7 w.pc)) (Err (refusal_of 6 w.pc)) a) w)
   unfolding fetched on_access
   fetched-names Served = obey-names _ refl
   fetched-names Beyond = refused-names (LacksAtPc R w) _ w (other 7 refl)

@@ -7,7 +7,8 @@ use mathlib.Core.Logic.{◌≢◌}
 use lib.ListN.{get_or, set}
 use native.Mathlib.Omega.{arith}
 use Rattle.state.specs.Held.{Held, Whole, Limbs, value_of, settled, waits}
-use Rattle.state.specs.Registers.{Registers, holds, normalise}
+use Rattle.state.specs.declared.registers.Registers.{Registers}
+use Rattle.state.specs.Registers.{holds, normalise}
 use Rattle.state.proofs.Files.{normalise-set}
 use Rattle.state.proofs.Normal.{waits-held}
 use Rattle.state.proofs.Normal.{value-and-carry, settled-whole, whole-limbs, others-stay, bounds-stay}

@@ -6,7 +6,8 @@ use mathlib.Core.List.{List, [], ◌∷◌}
 use lib.ListN.{get_or, set, length}
 use native.Mathlib.Omega.{arith}
 use Rattle.state.specs.Held.{Held, Whole, low_of, value_of, held_of, kept, waits}
-use Rattle.state.specs.Registers.{Registers, holds, noted, place, put, normalise}
+use Rattle.state.specs.declared.registers.Registers.{Registers}
+use Rattle.state.specs.Registers.{holds, noted, place, put, normalise}
 use Rattle.state.proofs.Files.{kept-settled, waits-settled, set_same}
 use Rattle.state.proofs.Normal.{held_kept}
 use Rattle.effect.specs.Effects.{seen}

@@ -6,11 +6,12 @@ use mathlib.Core.List.{List, []}
 use native.Mathlib.Omega.{arith}
 use lib.ListN.{length}
 use Rattle.refusal.specs.declared.Refusal.{Refusal}
-use Rattle.state.specs.Registers.{Registers}
+use Rattle.state.specs.declared.registers.Registers.{Registers}
 use Rattle.words.specs.Words.{fits_of}
 use Rattle.effect.specs.Outcomes.{Goes, Outcome, Does, Refuses}
 use Rattle.effect.specs.Outcomes as G
-use Rattle.pending.specs.Pending.{Lists, Check, lists_fit, room_of, lacks, listing}
+use Rattle.pending.specs.Pending.{Lists, lists_fit, room_of, lacks, listing}
+use Rattle.pending.specs.declared.Check.{Check}
 use Rattle.pending.specs.declared.Room.{Room}
 use Rattle.pending.specs.declared.Room.TheVariants.{Unlent}
 use Rattle.execute.specs.World.{World, Stepped, refused, went_of, checks_for, does, done}

@@ -1,4 +1,7 @@
 -- Steps and runs: both modes are one computer.
+use Rattle.std.specs.Prelude.{Err, Ok, Result}
+use Rattle.instruction.specs.declared.Instruction.{Instruction}
+use Rattle.refusal.specs.declared.Refusal.{Refusal}
 use Prim.Native.Nat.{ℕ, zero, suc}
 use mathlib.Core.Path.{◌≡◌, refl, sym, ap, ◌∙◌}
 use mathlib.Core.Bool.{Bool, true, false, cond, not, ◌&&◌}
@@ -7,15 +10,12 @@ use native.Mathlib.Omega.{arith}
 use Rattle.refusal.specs.Stops.{refusal_of}
 use Rattle.refusal.specs.declared.Stop.TheVariants as S
 use Rattle.memory.specs.Memory.{fetch_of}
-use Rattle.memory.specs.declared.Fetched.{Fetched}
-use Rattle.memory.specs.declared.Fetched.TheVariants as F
 use Rattle.state.specs.Held.{value_of}
-use Rattle.state.specs.Registers.{Registers, holds}
+use Rattle.state.specs.declared.registers.Registers.{Registers}
+use Rattle.state.specs.Registers.{holds}
 use Rattle.state.specs.Formed.{well_formed, all_whole}
 use Rattle.state.proofs.Normal.{whole-limbs}
 use Rattle.words.specs.Words.{decode_in}
-use Rattle.words.specs.declared.Decoded.{Decoded}
-use Rattle.words.specs.declared.Decoded.TheVariants as D
 use Rattle.execute.specs.World.{World, Stepped}
 use Rattle.execute.specs.Execute.{admits}
 use Rattle.execute.specs.declared.Mode.{Mode}
@@ -65,15 +65,15 @@ admits-read k R e =
     (all_from (λ n. not (get_or (no_marks R.accumulated) n false)) 16 (λ n. rw (no-mark R.accumulated n)))
 
 -- ---- one step
-obey-agrees : (k : Mode) (R : Rules) (d : Decoded) (w : World) → Sized w.registers → read_step (obey k Unlent R d w) ≡ unchecked (obey Plain Unlent R d (read_world w))
+obey-agrees : (k : Mode) (R : Rules) (d : Result Instruction Refusal) (w : World) → Sized w.registers → read_step (obey k Unlent R d w) ≡ unchecked (obey Plain Unlent R d (read_world w))
 unfolding obey
-obey-agrees k R (D.Instruction i) w z = instructions-agree k R.notes i w z
-obey-agrees k R (D.Refused r) w z = refl
+obey-agrees k R (Ok i) w z = instructions-agree k R.notes i w z
+obey-agrees k R (Err r) w z = refl
 
-fetched-agrees : (k : Mode) (R : Rules) (f : Fetched) (w : World) → Sized w.registers → read_step (fetched k Unlent R f w) ≡ unchecked (fetched Plain Unlent R f (read_world w))
+fetched-agrees : (k : Mode) (R : Rules) (f : Result ℕ Refusal) (w : World) → Sized w.registers → read_step (fetched k Unlent R f w) ≡ unchecked (fetched Plain Unlent R f (read_world w))
 unfolding fetched
-fetched-agrees k R (F.Word x) w z = obey-agrees k R (decode_in R.number x) w z
-fetched-agrees k R (F.Refused r) w z = refl
+fetched-agrees k R (Ok x) w z = obey-agrees k R (decode_in R.number x) w z
+fetched-agrees k R (Err r) w z = refl
 
 abbrev read_left : Left → Left
 read_left s = left s.went (read_world s.world) s.lists

@@ -3,7 +3,8 @@ use Prim.Native.Nat.{ℕ, zero, suc, ◌%◌}
 use mathlib.Core.Bool.{Bool}
 use lib.ListN.{length-set}
 use Rattle.state.specs.Held.{Held, settled}
-use Rattle.state.specs.Registers.{Registers, place, put, normalise}
+use Rattle.state.specs.declared.registers.Registers.{Registers}
+use Rattle.state.specs.Registers.{place, put, normalise}
 use Rattle.effect.specs.Notes.{Notes}
 use Rattle.instruction.specs.declared.Instruction.{Instruction}
 use Rattle.execute.specs.World.{World}

@@ -4,7 +4,7 @@ use mathlib.Core.Path.{◌≡◌}
 use mathlib.Core.Bool.{true}
 use native.Mathlib.Omega.{arith}
 use Rattle.state.specs.Held.{Held, low_of, high_of, settled}
-use Rattle.state.specs.Registers.{Registers}
+use Rattle.state.specs.declared.registers.Registers.{Registers}
 use Rattle.state.specs.Formed.{well_formed}
 use Rattle.effect.specs.Notes.{Notes}
 use Rattle.execute.specs.World.{World}

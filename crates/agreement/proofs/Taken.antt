@@ -8,7 +8,8 @@ use lib.Dec.{ltb}
 use native.Mathlib.Omega.{arith}
 use borrow.Author.Tests.{ltb-true, eq-eqb, le-leb}
 use Rattle.state.specs.Held.{Whole, kept, waits}
-use Rattle.state.specs.Registers.{Registers, place, put}
+use Rattle.state.specs.declared.registers.Registers.{Registers}
+use Rattle.state.specs.Registers.{place, put}
 use Rattle.state.specs.Formed.{all_below, all_whole}
 use Rattle.effect.specs.Notes.{Notes}
 use Rattle.instruction.specs.declared.Instruction.{Instruction}
@@ -17,7 +18,8 @@ use Rattle.execute.specs.Execute.{execute, admits}
 use Rattle.execute.specs.Rules.{Rules}
 use Rattle.execute.specs.declared.Mode.{Mode}
 use Rattle.execute.specs.declared.Mode.TheVariants.{Plain, Deferred}
-use Rattle.pending.specs.Pending.{Lists, lists, Check, lists_fit, room_of, appended, listing}
+use Rattle.pending.specs.Pending.{Lists, lists, lists_fit, room_of, appended, listing}
+use Rattle.pending.specs.declared.Check.{Check}
 use Rattle.pending.specs.declared.Room.{Room}
 use Rattle.pending.proofs.Lists.{fits-mean}
 use Rattle.step.specs.Step.{step_in, step_of}

@@ -7,7 +7,8 @@ use Rattle.execute.specs.World.{World}
 use Rattle.execute.specs.Execute.{admits}
 use Rattle.execute.specs.Rules.{Rules}
 use Rattle.execute.specs.declared.Mode.{Mode}
-use Rattle.pending.specs.Pending.{Check, lists_fit, room_at, listing, no_lists}
+use Rattle.pending.specs.Pending.{lists_fit, room_at, listing, no_lists}
+use Rattle.pending.specs.declared.Check.{Check}
 use Rattle.pending.proofs.Lists.{unlent-stays}
 use Rattle.step.specs.Step.{step_of, goes_on}
 use Rattle.run.specs.Run.{Answer, answer, preceded, following, loop, run}

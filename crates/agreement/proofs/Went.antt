@@ -1,7 +1,7 @@
 -- A step that goes on keeps the halt mark.
 use mathlib.Core.Path.{◌≡◌, refl}
 use lib.ListN.{length}
-use Rattle.state.specs.Registers.{Registers}
+use Rattle.state.specs.declared.registers.Registers.{Registers}
 use Rattle.effect.specs.Outcomes.{Goes, Outcome, Does, Refuses}
 use Rattle.effect.specs.Outcomes as G
 use Rattle.instruction.specs.declared.Instruction.{Instruction}

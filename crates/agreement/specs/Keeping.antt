@@ -2,8 +2,8 @@
 use Rattle.std.specs.Prelude.{ℕ, ◌+◌, ◌*◌, ◌%◌, ◌^◌, ◌≤◌, ◌<◌, ◌≡◌, ◌≢◌, [], get_or}
 use Rattle.refusal.specs.declared.Refusal.{Refusal}
 use Rattle.state.specs.Held.{Whole, low_of, high_of, value_of, normal, joined}
-use Rattle.state.specs.Registers.{Registers, holds}
-use Rattle.state.specs.Formed.{registers_of}
+use Rattle.state.specs.declared.registers.Registers.{Registers}
+use Rattle.state.specs.Registers.{holds}
 use Rattle.state.specs.declared.State.{State}
 use Rattle.normalize.specs.declared.Normalized.{Normalized}
 use Rattle.normalize.specs.declared.Normalizing.TheVariants.{Done}
@@ -58,5 +58,5 @@ pub record Normalised (R T : Registers) (n low high carried : ℕ) : Type 0 wher
 pub record NormalisedBy (s : State) (n low high : ℕ) (r : Normalized) : Type 0 where
   pub done : r.answer ≡ Done
   pub limbs-small : (get_or r.result.normalized 0 0 < 2 ^ 20) × (get_or r.result.normalized 1 0 < 2 ^ 20)
-  pub registers : Normalised (registers_of s) (registers_of r.state) n low high (get_or r.result.carries 1 0)
+  pub registers : Normalised s.registers r.state.registers n low high (get_or r.result.carries 1 0)
   pub pc-and-mark : (r.state.pc ≡ s.pc) × (r.state.halted ≡ s.halted)

@@ -1,5 +1,5 @@
 -- What refusal 2 names: the first byte that is missing.
-use Rattle.std.specs.Prelude.{ℕ, ◌+◌, ◌≤◌, ◌<◌, ◌≡◌, List, length}
+use Rattle.std.specs.Prelude.{Ok, ℕ, ◌+◌, ◌≤◌, ◌<◌, ◌≡◌, List, length}
 use contract.Lifetimes.{Lfts}
 use denote.Triple.Entry.{Args}
 use Rattle.refusal.specs.Stops.{number_of, particular_of}
@@ -8,7 +8,6 @@ use Rattle.refusal.specs.declared.Stop.TheVariants as S
 use Rattle.memory.specs.Bytes.{number_at}
 use Rattle.memory.specs.Memory.{size_of}
 use Rattle.words.specs.Words.{decode_in}
-use Rattle.words.specs.declared.Decoded.TheVariants as D
 use Rattle.effect.specs.Operations.{plus64, load_size, store_size}
 use Rattle.effect.specs.Notes.{Notes}
 use Rattle.effect.specs.Effects.{Seen, seen}
@@ -45,7 +44,7 @@ pub data Lacks (v : Seen) (m : List ℕ) (missing : ℕ) : Instruction → Type 
 -- and so is the one at the pc
 pub record LacksAtPc (R : Rules) (w : World) (missing : ℕ) : Type 0 where
   pub instruction : Instruction
-  pub fetched : decode_in R.number (number_at 4 w.memory w.pc) ≡ D.Instruction instruction
+  pub fetched : decode_in R.number (number_at 4 w.memory w.pc) ≡ Ok instruction
   pub lacks : Lacks (seen w.pc w.registers) w.memory missing instruction
 
 -- Of every instruction, in either mode, with room for checks or without, under any notes: accumulated registers count by their values.

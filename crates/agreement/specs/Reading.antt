@@ -1,7 +1,8 @@
 -- Registers read as values: what "the plain and the deferred run agree" compares.
 use Rattle.std.specs.Prelude.{ℕ, ◌≤◌, Bool, false, List, [], ◌∷◌, length}
 use Rattle.state.specs.Held.{value_of, held_of}
-use Rattle.state.specs.Registers.{Registers, registers}
+use Rattle.state.specs.declared.registers.Registers.{Registers}
+use Rattle.state.specs.Registers.{registers}
 use Rattle.execute.specs.World.{World, world, world_of, Stepped, stepped}
 use Rattle.run.specs.Run.{Answer, answer}
 use Rattle.layout.specs.Layout.{state_in}

@@ -5,8 +5,9 @@ use denote.Triple.Entry.{Args}
 use borrow.Fn.Kinds.{GoodsP}
 use Rattle.refusal.specs.declared.Refusal.{Refusal}
 use Rattle.state.specs.Held.{Held, Limbs, low_of, high_of, normal, settled}
-use Rattle.state.specs.Registers.{Registers, holds, normalise}
-use Rattle.state.specs.Formed.{well_formed, all_whole, registers_of}
+use Rattle.state.specs.declared.registers.Registers.{Registers}
+use Rattle.state.specs.Registers.{holds, normalise}
+use Rattle.state.specs.Formed.{well_formed, all_whole}
 use Rattle.normalize.specs.contracts.normalize_register
 use Rattle.normalize.proofs.normalize_register as normalize_register_told
 use Rattle.effect.specs.Notes.{Notes}
@@ -80,19 +81,19 @@ AnswersAgree =
 -- answer bytes, and state bytes that read alike.
 abbrev pub CallsAgree : Type 0
 CallsAgree =
-    (st m an : List ℕ) (fuel : ℕ) → all_whole (state_in st).accumulated ≡ true → read_call (call_of st m an fuel 1) ≡ read_call (call_of st m an fuel 0)
+    (st m an : List ℕ) (fuel : ℕ) → all_whole (state_in st).registers.accumulated ≡ true → read_call (call_of st m an fuel 1) ≡ read_call (call_of st m an fuel 0)
 
 -- One that the plain mode refuses before any step leaves the very same bytes in both.
 abbrev pub RefusedCallsAgree : Type 0
 RefusedCallsAgree =
-    (st m an : List ℕ) (fuel : ℕ) → all_whole (state_in st).accumulated ≡ true → call_taken st an 0 ≡ false
+    (st m an : List ℕ) (fuel : ℕ) → all_whole (state_in st).registers.accumulated ≡ true → call_taken st an 0 ≡ false
     → call_of st m an fuel 1 ≡ call_of st m an fuel 0
 
 -- Of the code: whatever two calls of `zkir_run` leave, as far as its own contract allows it, on the same bytes and fuel, in either mode.
 abbrev pub HostCallsAgree : Type 0
 HostCallsAgree =
     (κs ρs : Lfts 3) (a : Args zkir_run.signature κs) (b : Args zkir_run.signature ρs) → call_given κs a ≡ call_given ρs b
-    → mode_given κs a ≡ 1 → mode_given ρs b ≡ 0 → all_whole (state_in (call_given κs a).state).accumulated ≡ true
+    → mode_given κs a ≡ 1 → mode_given ρs b ≡ 0 → all_whole (state_in (call_given κs a).state).registers.accumulated ≡ true
     → (d : Leaves zkir_run.ended κs a) (p : Leaves zkir_run.ended ρs b)
     → Allows zkir_run.ended zkir_run_told.Reads.Learnt κs a d → Allows zkir_run.ended zkir_run_told.Reads.Learnt ρs b p
     → read_call (called_to κs a d) ≡ read_call (called_to ρs b p)
@@ -142,13 +143,13 @@ abbrev pub StepCallsKeepLimbs : Type 0
 StepCallsKeepLimbs =
     (κs : Lfts 4) (a : Args step·step.signature κs) (x : Leaves step·step.ended κs a) → Allows step·step.ended step_step_told.Reads.Learnt κs a x
     → well_formed (world_stepped κs a).registers ≡ true
-    → let after = registers_of x.0.state in (well_formed after ≡ true) × SmallLimbs after
+    → let after = x.0.state.registers in (well_formed after ≡ true) × SmallLimbs after
 
 abbrev pub RunCallsKeepLimbs : Type 0
 RunCallsKeepLimbs =
     (k : Mode) (κs : Lfts 4) (a : Args run_plain.signature κs) (x : Leaves run_plain.ended κs a) → Allows run_plain.ended (told_by k) κs a x
     → well_formed (world_given κs a).registers ≡ true
-    → let after = registers_of x.0.state in (well_formed after ≡ true) × SmallLimbs after
+    → let after = x.0.state.registers in (well_formed after ≡ true) × SmallLimbs after
 
 -- Numbers stay what the code can hold: 64 bits in registers and pc, bytes in memory. So a state's bytes hold all of it.
 abbrev pub StepsStayInBits : Type 0
@@ -213,8 +214,8 @@ NormalisingIsExact =
 -- Of the code: whatever `normalize_register` leaves, as far as its own contract allows it.
 abbrev pub ResultsAreExact : Type 0
 ResultsAreExact =
-    (κs : Lfts 0) (a : Args normalize_register.signature κs) (low high : ℕ) → well_formed (registers_of a.0) ≡ true → a.1.0 < 16
-    → holds (registers_of a.0) a.1.0 ≡ Limbs low high → (d : Leaves normalize_register.ended κs a)
+    (κs : Lfts 0) (a : Args normalize_register.signature κs) (low high : ℕ) → well_formed a.0.registers ≡ true → a.1.0 < 16
+    → holds a.0.registers a.1.0 ≡ Limbs low high → (d : Leaves normalize_register.ended κs a)
     → Allows normalize_register.ended normalize_register_told.Reads.Learnt κs a d → NormalisedBy a.0 a.1.0 low high d.0
 
 -- "never more than the fuel": of every run, refused ones too.

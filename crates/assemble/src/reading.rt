@@ -7,7 +7,6 @@ use crate::table::{Labels, Line};
 use forms::form_of;
 use labels::table::name_at;
 use names::named;
-use opcode::Found;
 
 fn is_foreign(byte: u8) -> bool {
     !byte.is_ascii_alphanumeric() && !matches!(byte, b' ' | b'+' | b'-' | b'(' | b')' | b',' | b':')
@@ -38,7 +37,7 @@ pub fn mistake_in<'a>(line: Line<'a>, labels: Labels<'_>) -> Wrong<'a> {
         return definition(rest, behind);
     }
     match named(name_at(name, 0).key) {
-        Found::Op(op) => operands(behind, labels, line.before, form_of(op)),
-        Found::Nothing => Mistake::NoInstruction.at(rest),
+        Some(op) => operands(behind, labels, line.before, form_of(op)),
+        None => Mistake::NoInstruction.at(rest),
     }
 }

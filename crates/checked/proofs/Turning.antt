@@ -6,7 +6,6 @@ use mathlib.Core.List.{List}
 use lib.Dec.{eqb, leb}
 use lib.ListN.{length}
 use borrow.Author.Tests.{eq-eqb}
-use Rattle.state.specs.Formed.{registers_of}
 use Rattle.state.specs.declared.State.{State}
 use Rattle.execute.specs.Execute.{admits}
 use Rattle.execute.specs.declared.Choices.{Choices}
@@ -17,5 +16,5 @@ use Rattle.checks.proofs.Listed.{fits-is}
 
 -- the test of an entry
 pub entry : (c : Choices) (s : State) (n : ℕ) (l : List Pending)
-    → (admits c.mode (registers_of s) && (eqb (length l) (length l) && eqb (length l) (length l) && leb n (length l))) ≡ (admits c.mode (registers_of s) && lists_fit (listed n l))
+    → (admits c.mode s.registers && (eqb (length l) (length l) && eqb (length l) (length l) && leb n (length l))) ≡ (admits c.mode s.registers && lists_fit (listed n l))
 entry c s n l = rw (fits-is n l, eq-eqb (length l) (length l) refl)

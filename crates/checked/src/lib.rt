@@ -13,7 +13,7 @@ ghost use Rattle.checked.specs.Machine.{stepped_over, ran_over};
 
 use checks::{Pending, note_at};
 use execute::{Choices, Went};
-use pending::{Checks, room_at};
+use pending::{Check, room_at};
 use refusal::Refusal;
 use run::legs::Going;
 use run::{Ran, legs};
@@ -21,12 +21,12 @@ use state::State;
 use step::{OneStep, leg, takes};
 
 // Lists the checks of a step at a pc, and answers the count then.
-fn note(list: &mut [Pending], count: usize, checks: Checks, pc: u64) -> usize
+fn note(list: &mut [Pending], count: usize, checks: Option<Check>, pc: u64) -> usize
     ensures { listed result list.new ≡ listing (checks_of checks) pc (listed count list.old) }
 {
     match checks {
-        Checks::Nothing => count,
-        Checks::One { bound, value } => {
+        None => count,
+        Some(Check { bound, value }) => {
             if list.len() <= count {
                 return count;
             }

@@ -3,6 +3,7 @@
 --     fits-is, room-is      the lists' tests, of the room
 --     listed_more           a record put at the count is one check more; there is none where there is no room
 --     refused-to-empty .. entry-is    what the calls answer, from the tests that they make
+use Rattle.std.specs.Prelude.{Err, None, Ok, Some}
 use Prim.Native.Nat.{ℕ, zero, suc, ◌+◌, ◌<◌, ◌≤◌}
 use mathlib.Core.Path.{◌≡◌, refl, ap, ◌∙◌}
 use mathlib.Core.Bool.{true, false}
@@ -12,9 +13,7 @@ use lib.ListN.{length, set, get_or, drop, length-map, get_or-map}
 use native.Mathlib.Omega.{arith}
 use borrow.Author.Tests.{lt-ltb, le-ltb, eq-eqb, le-leb, lt-leb}
 use Rattle.refusal.specs.Stops.{refusal_of}
-use Rattle.pending.specs.Pending.{Lists, lists_fit, room_at, room_of, appended, empty_answer, empty_lists, entry_at}
-use Rattle.pending.specs.declared.Counted.TheVariants as N
-use Rattle.pending.specs.declared.Entry.TheVariants as E
+use Rattle.pending.specs.Pending.{entry, Lists, lists_fit, room_at, room_of, appended, empty_answer, empty_lists, entry_at}
 use Rattle.pending.proofs.Lists.{empty-malformed, empty-done, entry-malformed, entry-beyond, entry-there}
 use Rattle.checks.specs.Records.{listed}
 use Rattle.checks.specs.declared.Pending.{Pending}
@@ -55,22 +54,22 @@ module _ (n : ℕ) (l : List Pending) where
   within h = fits-is n l ∙ le-leb n (length l) h
 
   pub refused-to-empty : length l < n
-      → (N.Refused (refusal_of 9 0) ≡ empty_answer (listed n l)) × (listed (empty_lists (listed n l)).count l ≡ empty_lists (listed n l))
+      → (Err (refusal_of 9 0) ≡ empty_answer (listed n l)) × (listed (empty_lists (listed n l)).count l ≡ empty_lists (listed n l))
   refused-to-empty h = let t = empty-malformed (listed n l) (not_within h) in (t.0, rw (← t.1))
 
   pub empties : n ≤ length l
-      → (N.Count 0 ≡ empty_answer (listed n l)) × (listed (empty_lists (listed n l)).count l ≡ empty_lists (listed n l))
+      → (Ok 0 ≡ empty_answer (listed n l)) × (listed (empty_lists (listed n l)).count l ≡ empty_lists (listed n l))
   empties h = let t = empty-done (listed n l) (within h) in (t.0, rw (← t.1))
 
   module _ (i : ℕ) where
-    pub refused-to-read : length l < n → E.Refused (refusal_of 9 0) ≡ entry_at i (listed n l)
+    pub refused-to-read : length l < n → Err (refusal_of 9 0) ≡ entry_at i (listed n l)
     refused-to-read h = entry-malformed i (listed n l) (not_within h)
 
-    pub no-entry : n ≤ length l → n ≤ i → E.Nothing ≡ entry_at i (listed n l)
+    pub no-entry : n ≤ length l → n ≤ i → Ok None ≡ entry_at i (listed n l)
     no-entry h g = entry-beyond i (listed n l) (within h) g
 
     pub entry-is : n ≤ length l → i < n
-        → E.Check (get_or l i none).value (get_or l i none).bound (get_or l i none).pc ≡ entry_at i (listed n l)
+        → Ok (Some (entry (get_or l i none).value (get_or l i none).bound (get_or l i none).pc)) ≡ entry_at i (listed n l)
     entry-is h g =
         rw (← get_or-map (λ (p : Pending). p.value) l i none, ← get_or-map (λ (p : Pending). p.bound) l i none, ← get_or-map (λ (p : Pending). p.pc) l i none)
         (entry-there i (listed n l) (within h) g)

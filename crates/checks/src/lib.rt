@@ -4,9 +4,8 @@
 ghost use Rattle.std.specs.Prelude.{◌≡◌, set};
 ghost use Rattle.pending.specs.Pending.{empty_answer, empty_lists, entry_at};
 ghost use Rattle.checks.specs.Records.{listed, answer_to, with_one};
-ghost use Rattle.checks.specs.Places.{Fits};
 
-use pending::{Counted, Entry};
+use pending::Entry;
 use refusal::Refusal;
 
 #[repr(C)]
@@ -17,82 +16,52 @@ pub struct Pending {
     pub pc: u64,
 }
 
-// Where a check is to be listed, which is beyond the list where none is, and the answer.
-#[derive(Clone, Copy)]
-struct Placed {
-    answer: Counted,
-    place: usize,
-}
-
 // The record at a place is overwritten, where there is one.
 pub fn note_at(list: &mut [Pending], at: usize, p: Pending)
     ensures { list.new ≡ set list.old at p }
 {
-    if list.len() <= at {
-        return;
-    }
-    list[at] = p;
-}
-
-fn place_for(room: usize, count: usize, p: Pending) -> Placed
-    ensures { Fits room count p result }
-{
-    if room < count {
-        return Placed {
-            answer: Counted::Refused(Refusal::Malformed),
-            place: room,
-        };
-    }
-    if count < room {
-        return Placed {
-            answer: Counted::Count(count + 1),
-            place: count,
-        };
-    }
-    if room == 0 {
-        return Placed {
-            answer: Counted::Count(count),
-            place: room,
-        };
-    }
-    Placed {
-        answer: Counted::Refused(Refusal::ListFull { pc: p.pc }),
-        place: room,
+    if at < list.len() {
+        list[at] = p;
     }
 }
 
 // Lists one check. Where no list is lent, none is listed and nothing refused.
-pub fn append(list: &mut [Pending], count: usize, p: Pending) -> Counted
+pub fn append(list: &mut [Pending], count: usize, p: Pending) -> Result<usize, Refusal>
     ensures { (result ≡ answer_to p count list.old) × (listed (with_one p count list.old).count list.new ≡ with_one p count list.old) }
 {
-    let r = place_for(list.len(), count, p);
-    note_at(list, r.place, p);
-    r.answer
+    let room = list.len();
+    if room < count {
+        return Err(Refusal::Malformed);
+    }
+    if count < room {
+        list[count] = p;
+        return Ok(count + 1);
+    }
+    if room == 0 {
+        return Ok(count);
+    }
+    Err(Refusal::ListFull { pc: p.pc })
 }
 
 // Empties the list: the count is 0 then, and the records stay.
-pub fn empty(list: &mut [Pending], count: usize) -> Counted
+pub fn empty(list: &mut [Pending], count: usize) -> Result<usize, Refusal>
     ensures { (result ≡ empty_answer (listed count list.old)) × (listed (empty_lists (listed count list.old)).count list.new ≡ empty_lists (listed count list.old)) }
 {
     if list.len() < count {
-        return Counted::Refused(Refusal::Malformed);
+        return Err(Refusal::Malformed);
     }
-    Counted::Count(0)
+    Ok(0)
 }
 
-pub fn read(list: &[Pending], count: usize, at: usize) -> Entry
+pub fn read(list: &[Pending], count: usize, at: usize) -> Result<Option<Entry>, Refusal>
     ensures { result ≡ entry_at at (listed count list.now) }
 {
-    if list.len() < count {
-        return Entry::Refused(Refusal::Malformed);
+    if count <= list.len() {
+        if count <= at {
+            return Ok(None);
+        }
+        let Pending { value, bound, pc } = list[at];
+        return Ok(Some(Entry { value, bound, pc }));
     }
-    if count <= at {
-        return Entry::Nothing;
-    }
-    let p = list[at];
-    Entry::Check {
-        value: p.value,
-        bound: p.bound,
-        pc: p.pc,
-    }
+    Err(Refusal::Malformed)
 }

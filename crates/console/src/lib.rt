@@ -4,7 +4,7 @@
 
 use refusal::{Refusal, Stop};
 use run::Ran;
-use state::{State, registers};
+use state::State;
 use std::{fmt, io};
 
 pub const FUEL: u64 = 1_000_000;
@@ -33,10 +33,8 @@ impl fmt::Display for Stopped {
 
 // The registers whose value is not zero, upwards.
 fn print_registers(rt: &impl Print, s: State) -> io::Result<()> {
-    let regs = s.regs;
-    let accumulated = s.accumulated;
     for n in 0..16u8 {
-        let value = registers::value_at(&regs, &accumulated, n);
+        let value = s.registers.value_at(n);
         if value != 0 {
             println!(rt; "R{n} {value}")?;
         }

@@ -12,7 +12,8 @@ use Rattle.opcode.proofs.Variants.{place, all-at}
 use Rattle.instruction.specs.Operands.{built, instruction_of}
 use Rattle.instruction.specs.declared.Parts.{Parts}
 use Rattle.instruction.specs.declared.Instruction.TheVariants.{Sub, Ecall}
-use Rattle.state.specs.Registers.{Registers, normalise}
+use Rattle.state.specs.declared.registers.Registers.{Registers}
+use Rattle.state.specs.Registers.{normalise}
 use Rattle.effect.specs.Notes.{Notes}
 use Rattle.effect.specs.Tables.{is_registers, is_immediate}
 use Rattle.deferred.specs.Limbs.{added, added_imm, limbed, limbs, limbs_if}
@@ -68,10 +69,6 @@ limbs-of-one N p Rs =
 module _ (N : Notes) (p : Parts) (Rs : Registers) where
   pub two-add : eqb (opcode_number p.op) (opcode_number O.Add) ≡ true → limbed true (added N p.a p.b p.c Rs) ≡ limbs_if (is_registers (form_of p.op)) N (instruction_of p) Rs
   two-add e = rw e at (limbs-of-two N p Rs)
-
-  pub two-sub : eqb (opcode_number p.op) (opcode_number O.Add) ≡ false → eqb (opcode_number p.op) (opcode_number O.Sub) ≡ true
-      → limbs N (Sub p.a p.b p.c) Rs ≡ limbs_if (is_registers (form_of p.op)) N (instruction_of p) Rs
-  two-sub e f = rw (e, f) at (limbs-of-two N p Rs)
 
   pub two_none : eqb (opcode_number p.op) (opcode_number O.Add) ≡ false → eqb (opcode_number p.op) (opcode_number O.Sub) ≡ false
       → limbed false Rs ≡ limbs_if (is_registers (form_of p.op)) N (instruction_of p) Rs

@@ -6,7 +6,8 @@ use mathlib.Core.Bool.{Bool, true, false}
 use mathlib.Core.List.{List, [], ◌∷◌}
 use lib.ListN.{get_or, set}
 use Rattle.state.specs.Held.{value_of, held_of}
-use Rattle.state.specs.Registers.{Registers, holds, place, normalise}
+use Rattle.state.specs.declared.registers.Registers.{Registers}
+use Rattle.state.specs.Registers.{holds, place, normalise}
 use Rattle.state.proofs.Files.{kept-settled, waits-settled}
 use Rattle.state.proofs.Normal.{bounds-stay}
 use Rattle.effect.specs.Effects.{seen}

@@ -1,7 +1,8 @@
 -- What is not done on limbs leaves the registers.
 use mathlib.Core.Path.{◌≡◌, refl}
 use mathlib.Core.Bool.{Bool, true, false, cond}
-use Rattle.state.specs.Registers.{Registers, holds}
+use Rattle.state.specs.declared.registers.Registers.{Registers}
+use Rattle.state.specs.Registers.{holds}
 use Rattle.effect.specs.Notes.{Notes}
 use Rattle.deferred.specs.Limbs.{limbed, covers, subtracted, limbs}
 use Rattle.instruction.specs.declared.Instruction.{Instruction}

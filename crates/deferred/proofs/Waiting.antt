@@ -6,7 +6,8 @@ use lib.Dec.{ltb}
 use borrow.Author.Tests.{ltb-true, leb-true}
 use native.Mathlib.Omega.{arith}
 use Rattle.state.specs.Held.{Held, Whole, Limbs, value_of, low_of, high_of, settled, kept, waits}
-use Rattle.state.specs.Registers.{Registers, place}
+use Rattle.state.specs.declared.registers.Registers.{Registers}
+use Rattle.state.specs.Registers.{place}
 use Rattle.state.proofs.Normal.{settled-whole}
 use Rattle.deferred.specs.Limbs.{sum_into, covers}
 use Rattle.deferred.specs.Plan.{limbs_of}

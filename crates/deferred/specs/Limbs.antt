@@ -1,7 +1,8 @@
 -- Document 01, "Limbs": Add, Sub and Addi on limbs, as deferred.rs has them with 01's changes.
 use Rattle.std.specs.Prelude.{ℕ, ◌+◌, ◌-◌, ◌^◌, Bool, true, false, cond, ◌&&◌, leb, ltb}
 use Rattle.state.specs.Held.{Held, Whole, Limbs, low_of, high_of, settled}
-use Rattle.state.specs.Registers.{Registers, holds, noted, put, normalise}
+use Rattle.state.specs.declared.registers.Registers.{Registers}
+use Rattle.state.specs.Registers.{holds, noted, put, normalise}
 use Rattle.effect.specs.Notes.{Notes}
 use Rattle.instruction.specs.declared.Instruction.{Instruction}
 use Rattle.instruction.specs.declared.Instruction.TheVariants.{Add, Sub, Addi, Mul, Divide, Op, OpImm, Move, Load, Store, Branch, Jal, Jalr, Ecall, Ebreak}

@@ -1,7 +1,8 @@
 -- Inner: what the code decides on before anything changes: what it reads of a source, and what a limb form then does to the registers.
 use Rattle.std.specs.Prelude.{ℕ, ◌%◌, ◌^◌, ◌<◌, ◌≡◌, true, false, cond}
 use Rattle.state.specs.Held.{Held, Limbs, low_of, high_of}
-use Rattle.state.specs.Registers.{Registers, place, normalise}
+use Rattle.state.specs.declared.registers.Registers.{Registers}
+use Rattle.state.specs.Registers.{place, normalise}
 use Rattle.deferred.specs.Limbs.{Limbed, limbed}
 use Rattle.deferred.specs.declared.sums.Operand.{Operand}
 use Rattle.deferred.specs.declared.sums.Plan.{Plan}

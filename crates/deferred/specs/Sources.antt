@@ -1,7 +1,8 @@
 -- "In a deferred run every other instruction first normalises its rs1, then rs2, as far as it has them; Ecall normalises R1 to R15;
 -- Ebreak none."
 use Rattle.std.specs.Prelude.{ℕ, List, [], ◌∷◌}
-use Rattle.state.specs.Registers.{Registers, normalise}
+use Rattle.state.specs.declared.registers.Registers.{Registers}
+use Rattle.state.specs.Registers.{normalise}
 use Rattle.instruction.specs.declared.Instruction.{Instruction}
 use Rattle.instruction.specs.declared.Instruction.TheVariants.{Add, Sub, Addi, Mul, Divide, Op, OpImm, Move, Load, Store, Branch, Jal, Jalr, Ecall, Ebreak}
 

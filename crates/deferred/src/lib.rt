@@ -3,7 +3,7 @@
 #![tactic(auto)]
 
 ghost use Rattle.std.specs.Prelude.{◌≡◌, true, cond};
-ghost use Rattle.state.specs.Registers.{registers, held_at, bound_at, normalise, Becomes};
+ghost use Rattle.state.specs.Registers.{holds, noted, normalise};
 ghost use Rattle.effect.specs.Notes.{document_notes};
 ghost use Rattle.effect.specs.Tables.{is_registers, is_immediate};
 ghost use Rattle.instruction.specs.Operands.{instruction_of};
@@ -14,151 +14,97 @@ ghost use Rattle.deferred.specs.Plan.{operand, Small, planned_into, planned};
 
 use instruction::Parts;
 use opcode::Opcode;
-use state::registers;
+use state::registers::Registers;
 use sums::{Operand, Plan};
 
 mod sums; // sums.rt: the sums and differences of limbs, in numbers alone
 
-fn operand_at<'a>(
-    regs: &'a [u64; 16],
-    accumulated: &'a [bool; 16],
-    bounds: &'a [u8; 16],
-    n: u8,
-) -> Operand
-    ensures { (result ≡ operand (held_at regs.now accumulated.now n) (bound_at bounds.now n)) × Small result }
+fn operand_at(registers: &Registers, n: u8) -> Operand
+    ensures { (result ≡ operand (holds registers.now n) (noted registers.now n)) × Small result }
 {
     Operand {
-        low: registers::low_at(regs, accumulated, n),
-        high: registers::high_at(regs, accumulated, n),
-        bound: registers::bound_at(bounds, n),
+        low: registers.low_at(n),
+        high: registers.high_at(n),
+        bound: registers.bound_at(n),
     }
 }
 
-fn add<'a>(p: Parts, regs: &'a [u64; 16], accumulated: &'a [bool; 16], bounds: &'a [u8; 16]) -> Plan
-    ensures { planned result p.a p.b (registers regs.now accumulated.now bounds.now) ≡ limbed true (added document_notes p.a p.b p.c (registers regs.now accumulated.now bounds.now)) }
+fn add(p: Parts, registers: &Registers) -> Plan
+    ensures { planned result p.a p.b registers.now ≡ limbed true (added document_notes p.a p.b p.c registers.now) }
 {
-    sums::sum(
-        operand_at(regs, accumulated, bounds, p.b),
-        operand_at(regs, accumulated, bounds, p.c),
-        p.c,
-    )
+    sums::sum(operand_at(registers, p.b), operand_at(registers, p.c), p.c)
 }
 
-fn add_immediate<'a>(
-    p: Parts,
-    regs: &'a [u64; 16],
-    accumulated: &'a [bool; 16],
-    bounds: &'a [u8; 16],
-) -> Plan
-    ensures { planned result p.a p.b (registers regs.now accumulated.now bounds.now) ≡ limbed true (added_imm document_notes p.a p.b p.imm (registers regs.now accumulated.now bounds.now)) }
+fn add_immediate(p: Parts, registers: &Registers) -> Plan
+    ensures { planned result p.a p.b registers.now ≡ limbed true (added_imm document_notes p.a p.b p.imm registers.now) }
 {
-    sums::sum(
-        operand_at(regs, accumulated, bounds, p.b),
-        sums::constant(p.imm),
-        0,
-    )
+    sums::sum(operand_at(registers, p.b), sums::constant(p.imm), 0)
 }
 
-fn sub<'a>(p: Parts, regs: &'a [u64; 16], accumulated: &'a [bool; 16], bounds: &'a [u8; 16]) -> Plan
-    ensures { planned result p.a p.b (registers regs.now accumulated.now bounds.now) ≡ limbs document_notes (Sub p.a p.b p.c) (registers regs.now accumulated.now bounds.now) }
+fn sub(p: Parts, registers: &Registers) -> Plan
+    ensures { planned result p.a p.b registers.now ≡ limbs document_notes (Sub p.a p.b p.c) registers.now }
 {
-    sums::difference(
-        operand_at(regs, accumulated, bounds, p.b),
-        operand_at(regs, accumulated, bounds, p.c),
-    )
+    sums::difference(operand_at(registers, p.b), operand_at(registers, p.c))
 }
 
-fn normalise_two(regs: &mut [u64; 16], accumulated: &mut [bool; 16], rs1: u8, rs2: u8)
-    ensures { Becomes (λ R. normalise rs2 (normalise rs1 R)) regs.old accumulated.old regs.new accumulated.new }
-{
-    registers::normalise(regs, accumulated, rs1);
-    registers::normalise(regs, accumulated, rs2);
-}
-
-fn normalise_if(forced: bool, regs: &mut [u64; 16], accumulated: &mut [bool; 16], rs1: u8, rs2: u8)
-    ensures { Becomes (λ R. cond forced (normalise rs2 (normalise rs1 R)) R) regs.old accumulated.old regs.new accumulated.new }
+fn normalise_if(forced: bool, registers: &mut Registers, rs1: u8, rs2: u8)
+    ensures { registers.new ≡ cond forced (normalise rs2 (normalise rs1 registers.old)) registers.old }
 {
     if forced {
-        normalise_two(regs, accumulated, rs1, rs2);
+        registers.normalise(rs1);
+        registers.normalise(rs2);
     }
 }
 
-fn carry_out(
-    k: Plan,
-    rd: u8,
-    rs1: u8,
-    regs: &mut [u64; 16],
-    accumulated: &mut [bool; 16],
-    bounds: &mut [u8; 16],
-)
-    ensures { registers regs.new accumulated.new bounds.new ≡ planned_into k rd rs1 (registers regs.old accumulated.old bounds.old) }
+fn carry_out(k: Plan, rd: u8, rs1: u8, registers: &mut Registers)
+    ensures { registers.new ≡ planned_into k rd rs1 registers.old }
 {
-    normalise_if(k.forced, regs, accumulated, rs1, k.rs2);
-    registers::write(regs, accumulated, bounds, rd, k.kept, true, k.bound);
+    normalise_if(k.forced, registers, rs1, k.rs2);
+    registers.write(rd, k.kept, true, k.bound);
 }
 
-fn plan_of_registers<'a>(
-    p: Parts,
-    regs: &'a [u64; 16],
-    accumulated: &'a [bool; 16],
-    bounds: &'a [u8; 16],
-) -> Plan
-    ensures { planned result p.a p.b (registers regs.now accumulated.now bounds.now) ≡ limbs_if (is_registers (form_of p.op)) document_notes (instruction_of p) (registers regs.now accumulated.now bounds.now) }
+fn plan_of_registers(p: Parts, registers: &Registers) -> Plan
+    ensures { planned result p.a p.b registers.now ≡ limbs_if (is_registers (form_of p.op)) document_notes (instruction_of p) registers.now }
 {
     let op = p.op;
     if opcode::same(op, Opcode::Add) {
-        return add(p, regs, accumulated, bounds);
+        return add(p, registers);
     }
     if opcode::same(op, Opcode::Sub) {
-        return sub(p, regs, accumulated, bounds);
+        return sub(p, registers);
     }
     sums::unplanned()
 }
 
-fn plan_of_immediate<'a>(
-    p: Parts,
-    regs: &'a [u64; 16],
-    accumulated: &'a [bool; 16],
-    bounds: &'a [u8; 16],
-) -> Plan
-    ensures { planned result p.a p.b (registers regs.now accumulated.now bounds.now) ≡ limbs_if (is_immediate (form_of p.op)) document_notes (instruction_of p) (registers regs.now accumulated.now bounds.now) }
+fn plan_of_immediate(p: Parts, registers: &Registers) -> Plan
+    ensures { planned result p.a p.b registers.now ≡ limbs_if (is_immediate (form_of p.op)) document_notes (instruction_of p) registers.now }
 {
     let op = p.op;
     if opcode::same(op, Opcode::Addi) {
-        return add_immediate(p, regs, accumulated, bounds);
+        return add_immediate(p, registers);
     }
     sums::unplanned()
 }
 
 // Executes Add or Sub on limbs, if it has that form here, and says whether it did. What is of another form is not executed.
-pub fn limbs_of_registers(
-    p: Parts,
-    regs: &mut [u64; 16],
-    accumulated: &mut [bool; 16],
-    bounds: &mut [u8; 16],
-) -> bool
-    ensures { limbed result (registers regs.new accumulated.new bounds.new) ≡ limbs_if (is_registers (form_of p.op)) document_notes (instruction_of p) (registers regs.old accumulated.old bounds.old) }
+pub fn limbs_of_registers(p: Parts, registers: &mut Registers) -> bool
+    ensures { limbed result registers.new ≡ limbs_if (is_registers (form_of p.op)) document_notes (instruction_of p) registers.old }
 {
-    let k = plan_of_registers(p, regs, accumulated, bounds);
+    let k = plan_of_registers(p, registers);
     if k.waits {
-        carry_out(k, p.a, p.b, regs, accumulated, bounds);
+        carry_out(k, p.a, p.b, registers);
         return true;
     }
     false
 }
 
 // Likewise Addi.
-pub fn limbs_of_immediate(
-    p: Parts,
-    regs: &mut [u64; 16],
-    accumulated: &mut [bool; 16],
-    bounds: &mut [u8; 16],
-) -> bool
-    ensures { limbed result (registers regs.new accumulated.new bounds.new) ≡ limbs_if (is_immediate (form_of p.op)) document_notes (instruction_of p) (registers regs.old accumulated.old bounds.old) }
+pub fn limbs_of_immediate(p: Parts, registers: &mut Registers) -> bool
+    ensures { limbed result registers.new ≡ limbs_if (is_immediate (form_of p.op)) document_notes (instruction_of p) registers.old }
 {
-    let k = plan_of_immediate(p, regs, accumulated, bounds);
+    let k = plan_of_immediate(p, registers);
     if k.waits {
-        carry_out(k, p.a, p.b, regs, accumulated, bounds);
+        carry_out(k, p.a, p.b, registers);
         return true;
     }
     false

@@ -1,17 +1,15 @@
 -- What an instruction does, as a function of what it sees: the pc, the registers' values and bounds, and memory. It is decided before
 -- anything changes, and it is the same in both modes.
-use Rattle.std.specs.Prelude.{ℕ, ◌*◌, ◌/◌, Bool, false, cond, List, length, eqb}
+use Rattle.refusal.specs.declared.Refusal.{Refusal}
+use Rattle.std.specs.Prelude.{Err, Ok, Result, ⊤, ℕ, ◌*◌, ◌/◌, Bool, false, cond, List, length, eqb}
 use Rattle.refusal.specs.Stops.{refusal_of}
 use Rattle.value.specs.Forty.{add40, sub40, mul40}
 use Rattle.bound.specs.Bits.{needs_check}
 use Rattle.memory.specs.Memory.{load_of, store_of}
-use Rattle.memory.specs.declared.Loaded.{Loaded}
-use Rattle.memory.specs.declared.Loaded.TheVariants as L
-use Rattle.memory.specs.declared.Stored.{Stored}
-use Rattle.memory.specs.declared.Stored.TheVariants as S
 use Rattle.memory.specs.declared.Size.{Size}
 use Rattle.state.specs.Held.{value_of}
-use Rattle.state.specs.Registers.{Registers, holds, noted}
+use Rattle.state.specs.declared.registers.Registers.{Registers}
+use Rattle.state.specs.Registers.{holds, noted}
 use Rattle.effect.specs.Operations.{plus64, divided, result, register_form, moves, taken, load_size, loaded, store_size}
 use Rattle.effect.specs.Notes.{Notes}
 use Rattle.instruction.specs.declared.Instruction.{Instruction}
@@ -58,13 +56,13 @@ unfoldable pub moving : Notes → MoveKind → ℕ → ℕ → ℕ → ℕ → �
 moving N op pc rd a b x z = cond (moves op b) (writes rd a (N.moved x z) (plus64 pc 4)) (goes_to (plus64 pc 4) G.On)
 
 -- a load or a store is refused as memory says (3, or else 2), or does what follows
-unfoldable pub on_loaded : (ℕ → Outcome) → Loaded → Outcome
-on_loaded f (L.Value v) = f v
-on_loaded f (L.Refused r) = Refuses r
+unfoldable pub on_loaded : (ℕ → Outcome) → Result ℕ Refusal → Outcome
+on_loaded f (Ok v) = f v
+on_loaded f (Err r) = Refuses r
 
-unfoldable pub on_storable : Outcome → Stored → Outcome
-on_storable does S.Done = does
-on_storable does (S.Refused r) = Refuses r
+unfoldable pub on_storable : Outcome → Result ⊤ Refusal → Outcome
+on_storable does (Ok tt) = does
+on_storable does (Err r) = Refuses r
 
 unfoldable pub loading : Notes → LoadKind → ℕ → ℕ → ℕ → List ℕ → Outcome
 loading N op pc rd address m = on_loaded (λ v. writes rd (loaded op v) (N.loaded op) (plus64 pc 4)) (load_of (load_size op) m address)

@@ -1,4 +1,5 @@
 -- What carrying out an outcome leaves.
+use Rattle.std.specs.Prelude.{Err, Ok, Result, ⊤}
 use Prim.Native.Nat.{ℕ}
 use native.Mathlib.Omega.{arith}
 use mathlib.Core.Path.{◌≡◌, refl, sym}
@@ -10,10 +11,9 @@ use Rattle.refusal.specs.Stops.{refusal_of}
 use Rattle.refusal.specs.declared.Refusal.{Refusal}
 use Rattle.memory.specs.Memory.{store_of, memory_after, on_stored}
 use Rattle.memory.specs.declared.Size.{Size}
-use Rattle.memory.specs.declared.Stored.{Stored}
-use Rattle.memory.specs.declared.Stored.TheVariants as M
 use Rattle.state.specs.Held.{Whole}
-use Rattle.state.specs.Registers.{Registers, put, place}
+use Rattle.state.specs.declared.registers.Registers.{Registers}
+use Rattle.state.specs.Registers.{put, place}
 use Rattle.effect.specs.Outcomes.{Refuses}
 use Rattle.effect.specs.Outcomes as G
 use Rattle.effect.specs.Effects.{writing, goes_to, stores_at, on_storable}
@@ -56,20 +56,20 @@ module _ (room : Room) (w : World) (R : Registers) (next : ℕ) where
   unfolding done place
   went-halt = rw (fits-none room)
 
-  kept-stores : (size : Size) (address v : ℕ) (t : Stored) → t ≡ M.Done
+  kept-stores : (size : Size) (address v : ℕ) (t : Result ⊤ Refusal) → t ≡ (Ok tt)
       → stepped W.On (world next w.halted R (memory_after size w.memory address v)) []
       ≡ done room (on_storable (stores_at size address v next) t) w R
   unfolding done on_storable place
   kept-stores size address v t f = rw (f, fits-none room)
 
   pub went-stores : (size : Size) (address v : ℕ) (n : List ℕ)
-      → n ≡ memory_after size w.memory address v → M.Done ≡ store_of size (length w.memory) address
+      → n ≡ memory_after size w.memory address v → (Ok tt) ≡ store_of size (length w.memory) address
       → stepped W.On (world next w.halted R n) []
       ≡ done room (on_storable (stores_at size address v next) (store_of size (length w.memory) address)) w R
   went-stores size address v n e f = rw e (kept-stores size address v (store_of size (length w.memory) address) (sym f))
 
   pub went-unstored : (size : Size) (address v : ℕ) (n : List ℕ) (r : Refusal)
-      → n ≡ memory_after size w.memory address v → M.Refused r ≡ store_of size (length w.memory) address
+      → n ≡ memory_after size w.memory address v → Err r ≡ store_of size (length w.memory) address
       → stepped (W.Refused r) (world w.pc w.halted w.registers n) []
       ≡ done room (on_storable (stores_at size address v next) (store_of size (length w.memory) address)) w R
   unfolding done on_storable on_stored

@@ -2,7 +2,7 @@
 use Prim.Native.Nat.{ℕ}
 use mathlib.Core.Path.{◌≡◌, refl, sym, ap, ◌∙◌}
 use mathlib.Core.Bool.{true, false}
-use Rattle.state.specs.Registers.{Registers}
+use Rattle.state.specs.declared.registers.Registers.{Registers}
 use Rattle.effect.specs.Notes.{Notes}
 use Rattle.effect.specs.Effects.{seen, effect}
 use Rattle.pending.specs.declared.Room.{Room}

@@ -1,4 +1,6 @@
 -- A word by its form: what it settles, which forms have no limb form, and the word taken apart.
+use Rattle.std.specs.Prelude.{None, Option, Result, Some}
+use Rattle.refusal.specs.declared.Refusal.{Refusal}
 use Prim.Native.Nat.{ℕ, ◌/◌, ◌^◌}
 use mathlib.Core.Path.{◌≡◌, refl, sym, ap, ◌∙◌}
 use mathlib.Core.Bool.{Bool, true, false, cond, not, ◌&&◌}
@@ -10,8 +12,6 @@ use Rattle.encoding.specs.Fields.{field}
 use Rattle.refusal.specs.declared.Refusal.TheVariants.{UnusedBits, BadOpcode}
 use Rattle.memory.specs.Memory as M
 use Rattle.opcode.specs.Opcodes.{form_of, all, opcode_number, opcode_in}
-use Rattle.opcode.specs.declared.Found.{Found}
-use Rattle.opcode.specs.declared.Found.TheVariants.{Op, Nothing}
 use Rattle.opcode.specs.declared.Opcode.{Opcode}
 use Rattle.opcode.specs.declared.Opcode.TheVariants as O
 use Rattle.opcode.specs.declared.Form.{Form}
@@ -25,9 +25,9 @@ use Rattle.instruction.specs.declared.Instruction.{Instruction}
 use Rattle.instruction.specs.declared.Instruction.TheVariants.{Store, Branch, Jal, Ecall, Ebreak}
 use Rattle.instruction.specs.declared.Parts.{Parts}
 use Rattle.words.specs.Words.{apart_of, found_apart, take_in, decoded_of, decode_in}
-use Rattle.words.specs.declared.Taken.{Taken}
 use Rattle.words.proofs.Steps.{apart-refused, apart-made}
-use Rattle.state.specs.Registers.{Registers, holds, normalise}
+use Rattle.state.specs.declared.registers.Registers.{Registers}
+use Rattle.state.specs.Registers.{holds, normalise}
 use Rattle.state.specs.Held.{value_of}
 use Rattle.state.specs.Registers as Rg
 use Rattle.effect.specs.Notes.{Notes, document_notes}
@@ -137,7 +137,7 @@ no-limb-form Deferred N f op a b c imm S e h = sym (rw (e, h) at (none-limbed N 
 module _ (s : Start) (R : Registers) (m : List ℕ) (op : Opcode) (f : Form) (u word : ℕ) (e : f ≡ form_of op) (h : u ≡ word / 2 ^ used_bits f) where
   pub obeyed-refused : (u ≡ 0 → ⊥) → refused (UnusedBits word) (started s R m) ≡ obeyed s (decoded_of (apart_of op word)) R m
   unfolding obey decoded_of
-  obeyed-refused n = ap (λ (t : Taken). obeyed s (decoded_of t) R m) (apart-refused op f u word e h n)
+  obeyed-refused n = ap (λ (t : Result Parts Refusal). obeyed s (decoded_of t) R m) (apart-refused op f u word e h n)
 
   pub obeyed-made : (p : Parts) (i : ℕ) (x : Stepped) → u ≡ 0 → i ≡ immediate_of f word
       → p ≡ parts op (field 7 4 word) (field 11 4 word) (field 15 4 word) i
@@ -145,7 +145,7 @@ module _ (s : Start) (R : Registers) (m : List ℕ) (op : Opcode) (f : Form) (u 
   unfolding obey decoded_of
   obeyed-made p i x z q r y =
       (rw r at y)
-      ∙ ap (λ (t : Taken). obeyed s (decoded_of t) R m)
+      ∙ ap (λ (t : Result Parts Refusal). obeyed s (decoded_of t) R m)
       (apart-made op f u word e h (field 7 4 word) (field 11 4 word) (field 15 4 word) i z refl refl refl q)
 
 -- Ecall and Ebreak have no operands: their instruction is known by the opcode alone
@@ -169,16 +169,16 @@ module _ (s : Start) (R : Registers) (m : List ℕ) (op : Opcode) (u word : ℕ)
       y
 
 -- a word found, or not
-pub obeyed-found : (s : Start) (R : Registers) (m : List ℕ) (f : Found) (op : Opcode) (word : ℕ) (x : Stepped)
-    → f ≡ opcode_in opcode_number (field 0 7 word) → f ≡ Op op → x ≡ obeyed s (decoded_of (apart_of op word)) R m
+pub obeyed-found : (s : Start) (R : Registers) (m : List ℕ) (f : Option Opcode) (op : Opcode) (word : ℕ) (x : Stepped)
+    → f ≡ opcode_in opcode_number (field 0 7 word) → f ≡ Some op → x ≡ obeyed s (decoded_of (apart_of op word)) R m
     → x ≡ obeyed s (decode_in opcode_number word) R m
 unfolding take_in found_apart
-obeyed-found s R m f op word x e h y = y ∙ ap (λ (g : Found). obeyed s (decoded_of (found_apart g word)) R m) (sym h ∙ e)
+obeyed-found s R m f op word x e h y = y ∙ ap (λ (g : Option Opcode). obeyed s (decoded_of (found_apart g word)) R m) (sym h ∙ e)
 
-pub obeyed-unknown : (s : Start) (R : Registers) (m : List ℕ) (f : Found) (word : ℕ)
-    → f ≡ opcode_in opcode_number (field 0 7 word) → f ≡ Nothing → refused (BadOpcode word) (started s R m) ≡ obeyed s (decode_in opcode_number word) R m
+pub obeyed-unknown : (s : Start) (R : Registers) (m : List ℕ) (f : Option Opcode) (word : ℕ)
+    → f ≡ opcode_in opcode_number (field 0 7 word) → f ≡ None → refused (BadOpcode word) (started s R m) ≡ obeyed s (decode_in opcode_number word) R m
 unfolding take_in found_apart decoded_of obey
-obeyed-unknown s R m f word e h = ap (λ (g : Found). obeyed s (decoded_of (found_apart g word)) R m) (sym h ∙ e)
+obeyed-unknown s R m f word e h = ap (λ (g : Option Opcode). obeyed s (decoded_of (found_apart g word)) R m) (sym h ∙ e)
 
 -- "Ebreak keeps the pc and marks the halt"
 pub halted : (s : Start) (R : Registers) (m : List ℕ) → stepped W.Ebreak (world s.pc true R m) [] ≡ doing s Ebreak R m

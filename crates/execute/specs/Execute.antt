@@ -1,6 +1,6 @@
 -- An instruction executed, in the plain and in the deferred mode.
 use Rattle.std.specs.Prelude.{Bool, cond, ◌&&◌, []}
-use Rattle.state.specs.Registers.{Registers}
+use Rattle.state.specs.declared.registers.Registers.{Registers}
 use Rattle.state.specs.Formed.{well_formed, all_whole}
 use Rattle.effect.specs.Operations.{plus64}
 use Rattle.effect.specs.Notes.{Notes}

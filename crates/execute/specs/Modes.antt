@@ -1,6 +1,6 @@
 -- What the deferred mode does beside the instruction on whole values, and the plain one does not.
 use Rattle.std.specs.Prelude.{false}
-use Rattle.state.specs.Registers.{Registers}
+use Rattle.state.specs.declared.registers.Registers.{Registers}
 use Rattle.effect.specs.Notes.{Notes}
 use Rattle.deferred.specs.Limbs.{Limbed, limbed, limbs}
 use Rattle.deferred.specs.Sources.{sources, normalise_each}

@@ -1,9 +1,9 @@
 -- The choices of a run as document 01's definitions take them, and a word obeyed by them.
-use Rattle.std.specs.Prelude.{ℕ}
+use Rattle.instruction.specs.declared.Instruction.{Instruction}
+use Rattle.refusal.specs.declared.Refusal.{Refusal}
+use Rattle.std.specs.Prelude.{Err, Ok, Result, ℕ}
 use Rattle.opcode.specs.Opcodes.{opcode_number}
 use Rattle.opcode.specs.declared.Opcode.{Opcode}
-use Rattle.words.specs.declared.Decoded.{Decoded}
-use Rattle.words.specs.declared.Decoded.TheVariants as D
 use Rattle.pending.specs.declared.Room.{Room}
 use Rattle.effect.specs.Notes.{Notes, document_notes}
 use Rattle.execute.specs.World.{World, Stepped, refused}
@@ -24,6 +24,6 @@ abbrev pub rules_of : Choices → Rules
 rules_of c = document_rules
 
 -- "A step tests 9, 6, 7, 4, 5, then 1, or 3 and 2, then 8": 4 and 5 as the word is decoded
-unfoldable pub obey : Mode → Room → Rules → Decoded → World → Stepped
-obey k room R (D.Instruction i) w = execute k room R.notes i w
-obey k room R (D.Refused r) w = refused r w
+unfoldable pub obey : Mode → Room → Rules → Result Instruction Refusal → World → Stepped
+obey k room R (Ok i) w = execute k room R.notes i w
+obey k room R (Err r) w = refused r w

@@ -1,9 +1,10 @@
 -- Inner: what the functions of the forms promise.
-use Rattle.std.specs.Prelude.{ℕ, ◌≡◌, List}
+use Rattle.refusal.specs.declared.Refusal.{Refusal}
+use Rattle.std.specs.Prelude.{Result, ℕ, ◌≡◌, List}
 use Rattle.pending.specs.Pending.{checks_of}
-use Rattle.state.specs.Registers.{Registers, normalise}
+use Rattle.state.specs.declared.registers.Registers.{Registers}
+use Rattle.state.specs.Registers.{normalise}
 use Rattle.instruction.specs.declared.Instruction.{Instruction}
-use Rattle.words.specs.declared.Decoded.{Decoded}
 use Rattle.effect.specs.Outcomes.{Outcome}
 use Rattle.effect.specs.Effects.{seen, effect}
 use Rattle.execute.specs.World.{World, world, Stepped, stepped, done}
@@ -23,7 +24,7 @@ advanced a R m = stepped a.went (world a.pc a.halted R m) (checks_of a.checks)
 abbrev pub started : Start → Registers → List ℕ → World
 started s R m = world s.pc s.halted R m
 
-abbrev pub obeyed : Start → Decoded → Registers → List ℕ → Stepped
+abbrev pub obeyed : Start → Result Instruction Refusal → Registers → List ℕ → Stepped
 obeyed s d R m = obey s.choices.mode s.room (rules_of s.choices) d (started s R m)
 
 -- an instruction executed; and on whole values alone

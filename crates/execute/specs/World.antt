@@ -4,14 +4,15 @@ use Rattle.refusal.specs.Stops.{refusal_of}
 use Rattle.refusal.specs.declared.Refusal.{Refusal}
 use Rattle.memory.specs.Memory.{memory_after}
 use Rattle.state.specs.Held.{Whole}
-use Rattle.state.specs.Registers.{Registers, put}
-use Rattle.state.specs.Formed.{registers_of}
+use Rattle.state.specs.declared.registers.Registers.{Registers}
+use Rattle.state.specs.Registers.{put}
 use Rattle.state.specs.declared.State.{State}
 use Rattle.effect.specs.Outcomes.{Goes, Stores, Nothing, Bytes, Effect, Outcome, Does, Refuses}
 use Rattle.effect.specs.Outcomes as G
 use Rattle.execute.specs.declared.Went.{Went}
 use Rattle.execute.specs.declared.Went.TheVariants as W
-use Rattle.pending.specs.Pending.{Check, check, lacks}
+use Rattle.pending.specs.Pending.{check, lacks}
+use Rattle.pending.specs.declared.Check.{Check}
 use Rattle.pending.specs.declared.Room.{Room}
 
 pub record World : Type 0 where
@@ -24,7 +25,7 @@ abbrev pub world : ℕ → Bool → Registers → List ℕ → World
 world pc halted R m = record { pc = pc; halted = halted; registers = R; memory = m }
 
 abbrev pub world_of : State → List ℕ → World
-world_of s m = world s.pc s.halted (registers_of s) m
+world_of s m = world s.pc s.halted s.registers m
 
 -- how the step went, the world after it, and the checks that it asks for
 pub record Stepped : Type 0 where

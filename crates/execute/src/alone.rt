@@ -1,76 +1,62 @@
 // Ecall and Ebreak.
-ghost use Rattle.std.specs.Prelude.{◌≡◌, true};
+ghost use Rattle.std.specs.Prelude.{None, ◌≡◌, true};
 ghost use Rattle.opcode.specs.Opcodes.{form_of};
 ghost use Rattle.opcode.specs.declared.Form.TheVariants as F;
 ghost use Rattle.instruction.specs.declared.Instruction.TheVariants.{Ecall};
 ghost use Rattle.words.specs.Words.{apart_of, decoded_of};
-ghost use Rattle.state.specs.Registers.{registers, Becomes};
-ghost use Rattle.pending.specs.declared.Checks.TheVariants.{Nothing};
 ghost use Rattle.execute.specs.Modes.{settle_sources};
 ghost use Rattle.execute.specs.declared.Went.TheVariants as W;
 ghost use Rattle.execute.specs.Starts.{obeyed, doing, Always};
 
 use crate::{Advance, Mode, Start, Went, refuse};
 use opcode::{Form, Opcode};
-use pending::Checks;
+use pending::Check;
 use refusal::Refusal;
-use state::registers;
+use state::registers::Registers;
 
-fn settle_all(mode: Mode, regs: &mut [u64; 16], accumulated: &mut [bool; 16])
-    ensures { Becomes (settle_sources mode Ecall) regs.old accumulated.old regs.new accumulated.new }
+fn settle_all(mode: Mode, registers: &mut Registers)
+    ensures { registers.new ≡ settle_sources mode Ecall registers.old }
 {
     match mode {
-        Mode::Deferred => registers::normalise_all(regs, accumulated),
+        Mode::Deferred => registers.normalise_all(),
         Mode::Plain => (),
     }
 }
 
-fn call(
-    start: Start,
-    regs: &mut [u64; 16],
-    accumulated: &mut [bool; 16],
-    bounds: &mut [u8; 16],
-) -> Advance
-    ensures { Always (doing start Ecall (registers regs.old accumulated.old bounds.old)) result (registers regs.new accumulated.new bounds.new) }
+fn call(start: Start, registers: &mut Registers) -> Advance
+    ensures { Always (doing start Ecall registers.old) result registers.new }
 {
     let choices = start.choices;
     let mode = choices.mode;
-    settle_all(mode, regs, accumulated);
+    settle_all(mode, registers);
     Advance {
         went: Went::Ecall,
         pc: value::address::plus(start.pc, 4),
         halted: start.halted,
-        checks: Checks::Nothing,
+        checks: None,
     }
 }
 
 fn halt(start: Start) -> Advance
-    ensures { result ≡ record { went = W.Ebreak; pc = start.pc; halted = true; checks = Nothing } }
+    ensures { result ≡ record { went = W.Ebreak; pc = start.pc; halted = true; checks = None } }
 {
     Advance {
         went: Went::Ebreak,
         pc: start.pc,
         halted: true,
-        checks: Checks::Nothing,
+        checks: None,
     }
 }
 
-pub(crate) fn obey(
-    start: Start,
-    op: Opcode,
-    word: u32,
-    regs: &mut [u64; 16],
-    accumulated: &mut [bool; 16],
-    bounds: &mut [u8; 16],
-) -> Advance
+pub(crate) fn obey(start: Start, op: Opcode, word: u32, registers: &mut Registers) -> Advance
     requires { form_of op ≡ F.Alone }
-    ensures { Always (obeyed start (decoded_of (apart_of op word)) (registers regs.old accumulated.old bounds.old)) result (registers regs.new accumulated.new bounds.new) }
+    ensures { Always (obeyed start (decoded_of (apart_of op word)) registers.old) result registers.new }
 {
     if forms::unused(Form::Alone, word) != 0 {
         return refuse(start, Refusal::UnusedBits { word });
     }
     if opcode::same(op, Opcode::Ecall) {
-        return call(start, regs, accumulated, bounds);
+        return call(start, registers);
     }
     halt(start)
 }

@@ -6,7 +6,7 @@ ghost use Rattle.instruction.specs.Operands.{instruction_of};
 ghost use Rattle.instruction.specs.Kinds.{branch_kind_of};
 ghost use Rattle.words.specs.Words.{apart_of, decoded_of};
 ghost use Rattle.state.specs.Held.{value_of};
-ghost use Rattle.state.specs.Registers.{registers, held_at};
+ghost use Rattle.state.specs.Registers.{holds};
 ghost use Rattle.effect.specs.Operations.{plus64, taken};
 ghost use Rattle.execute.specs.Starts.{obeyed, doing, Always};
 
@@ -15,7 +15,7 @@ use crate::{Advance, Start};
 use effect::branch::taken;
 use instruction::Parts;
 use opcode::{Form, Opcode};
-use state::registers;
+use state::registers::Registers;
 
 fn either(t: bool, x: u64, y: u64) -> u64
     ensures { result ≡ cond t x y }
@@ -24,43 +24,30 @@ fn either(t: bool, x: u64, y: u64) -> u64
 }
 
 // Where the run goes on.
-fn next_pc<'a>(pc: u64, p: Parts, regs: &'a [u64; 16], accumulated: &'a [bool; 16]) -> u64
-    ensures { result ≡ plus64 pc (cond (taken (branch_kind_of p.op) (value_of (held_at regs.now accumulated.now p.a)) (value_of (held_at regs.now accumulated.now p.b))) p.imm 4) }
+fn next_pc(pc: u64, p: Parts, registers: &Registers) -> u64
+    ensures { result ≡ plus64 pc (cond (taken (branch_kind_of p.op) (value_of (holds registers.now p.a)) (value_of (holds registers.now p.b))) p.imm 4) }
 {
     let op = p.op;
-    let s = registers::value_at(regs, accumulated, p.a);
-    let t = registers::value_at(regs, accumulated, p.b);
+    let s = registers.value_at(p.a);
+    let t = registers.value_at(p.b);
     value::address::plus(pc, either(taken(op, s, t), p.imm, 4))
 }
 
-fn executed(
-    start: Start,
-    p: Parts,
-    regs: &mut [u64; 16],
-    accumulated: &mut [bool; 16],
-    bounds: &mut [u8; 16],
-) -> Advance
+fn executed(start: Start, p: Parts, registers: &mut Registers) -> Advance
     requires { form_of p.op ≡ F.B }
-    ensures { Always (doing start (instruction_of p) (registers regs.old accumulated.old bounds.old)) result (registers regs.new accumulated.new bounds.new) }
+    ensures { Always (doing start (instruction_of p) registers.old) result registers.new }
 {
     let choices = start.choices;
     let mode = choices.mode;
-    let next = next_pc(start.pc, p, regs, accumulated);
-    settle_two(mode, p.a, p.b, regs, accumulated);
+    let next = next_pc(start.pc, p, registers);
+    settle_two(mode, p.a, p.b, registers);
     to(start, next)
 }
 
-pub(crate) fn obey(
-    start: Start,
-    op: Opcode,
-    word: u32,
-    regs: &mut [u64; 16],
-    accumulated: &mut [bool; 16],
-    bounds: &mut [u8; 16],
-) -> Advance
+pub(crate) fn obey(start: Start, op: Opcode, word: u32, registers: &mut Registers) -> Advance
     requires { form_of op ≡ F.B }
-    ensures { Always (obeyed start (decoded_of (apart_of op word)) (registers regs.old accumulated.old bounds.old)) result (registers regs.new accumulated.new bounds.new) }
+    ensures { Always (obeyed start (decoded_of (apart_of op word)) registers.old) result registers.new }
 {
     let p = parts(op, word, forms::immediate(Form::B, word));
-    executed(start, p, regs, accumulated, bounds)
+    executed(start, p, registers)
 }

@@ -1,10 +1,9 @@
 // What the forms share: how a step ends, and what it does to the registers.
-ghost use Rattle.std.specs.Prelude.{◌≡◌, ◌%◌};
+ghost use Rattle.std.specs.Prelude.{None, ◌≡◌, ◌%◌};
 ghost use Rattle.encoding.specs.Fields.{field};
 ghost use Rattle.state.specs.Held.{Whole};
-ghost use Rattle.state.specs.Registers.{registers, put, Becomes};
+ghost use Rattle.state.specs.Registers.{put};
 ghost use Rattle.effect.specs.Operations.{plus64};
-ghost use Rattle.pending.specs.declared.Checks.TheVariants.{Nothing};
 ghost use Rattle.execute.specs.Starts.{settle_two};
 ghost use Rattle.execute.specs.declared.Went.TheVariants as W;
 
@@ -12,8 +11,8 @@ use crate::{Advance, Mode, Start, Went};
 use encoding::fields;
 use instruction::Parts;
 use opcode::Opcode;
-use pending::Checks;
-use state::registers;
+use pending::Check;
+use state::registers::Registers;
 
 fn register(x: u32) -> u8
     ensures { result ≡ x % 16 }
@@ -34,37 +33,31 @@ pub(crate) fn parts(op: Opcode, word: u32, imm: u64) -> Parts
 }
 
 pub(crate) fn to(start: Start, next: u64) -> Advance
-    ensures { result ≡ record { went = W.On; pc = next; halted = start.halted; checks = Nothing } }
+    ensures { result ≡ record { went = W.On; pc = next; halted = start.halted; checks = None } }
 {
     Advance {
         went: Went::On,
         pc: next,
         halted: start.halted,
-        checks: Checks::Nothing,
+        checks: None,
     }
 }
 
 pub(crate) fn onward(start: Start) -> Advance
-    ensures { result ≡ record { went = W.On; pc = plus64 start.pc 4; halted = start.halted; checks = Nothing } }
+    ensures { result ≡ record { went = W.On; pc = plus64 start.pc 4; halted = start.halted; checks = None } }
 {
     to(start, value::address::plus(start.pc, 4))
 }
 
 // The sources of an instruction on whole values; R0 where it has only one. Of two arms the compiler takes the last one to be the
 // more likely, here and in the limb forms: the plain mode has less else to do.
-pub(crate) fn settle_two(
-    mode: Mode,
-    first: u8,
-    second: u8,
-    regs: &mut [u64; 16],
-    accumulated: &mut [bool; 16],
-)
-    ensures { Becomes (settle_two mode first second) regs.old accumulated.old regs.new accumulated.new }
+pub(crate) fn settle_two(mode: Mode, first: u8, second: u8, registers: &mut Registers)
+    ensures { registers.new ≡ settle_two mode first second registers.old }
 {
     match mode {
         Mode::Deferred => {
-            registers::normalise(regs, accumulated, first);
-            registers::normalise(regs, accumulated, second);
+            registers.normalise(first);
+            registers.normalise(second);
         }
         Mode::Plain => (),
     }
@@ -77,17 +70,9 @@ pub(crate) struct Write {
     pub value: u64,
 }
 
-pub(crate) fn put(
-    mode: Mode,
-    first: u8,
-    second: u8,
-    w: Write,
-    regs: &mut [u64; 16],
-    accumulated: &mut [bool; 16],
-    bounds: &mut [u8; 16],
-)
-    ensures { (registers regs.new accumulated.new bounds.new) ≡ put (settle_two mode first second (registers regs.old accumulated.old bounds.old)) w.rd (Whole w.value) w.bound }
+pub(crate) fn put(mode: Mode, first: u8, second: u8, w: Write, registers: &mut Registers)
+    ensures { registers.new ≡ put (settle_two mode first second registers.old) w.rd (Whole w.value) w.bound }
 {
-    settle_two(mode, first, second, regs, accumulated);
-    registers::write(regs, accumulated, bounds, w.rd, w.value, false, w.bound);
+    settle_two(mode, first, second, registers);
+    registers.write(w.rd, w.value, false, w.bound);
 }

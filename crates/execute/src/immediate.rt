@@ -4,7 +4,6 @@ ghost use Rattle.opcode.specs.Opcodes.{form_of};
 ghost use Rattle.opcode.specs.declared.Form.TheVariants as F;
 ghost use Rattle.instruction.specs.Operands.{instruction_of};
 ghost use Rattle.words.specs.Words.{apart_of, decoded_of};
-ghost use Rattle.state.specs.Registers.{registers};
 ghost use Rattle.effect.specs.Notes.{document_notes};
 ghost use Rattle.effect.specs.Effects.{seen};
 ghost use Rattle.effect.specs.Tables.{turn_outcome, one_of};
@@ -19,20 +18,13 @@ use effect::immediate::{Source, Turn};
 use instruction::Parts;
 use opcode::{Form, Opcode};
 use refusal::Refusal;
-use state::registers;
+use state::registers::Registers;
 
-fn carry(
-    start: Start,
-    turn: Turn,
-    p: Parts,
-    regs: &mut [u64; 16],
-    accumulated: &mut [bool; 16],
-    bounds: &mut [u8; 16],
-) -> Advance
-    ensures { Always (carried start (turn_outcome p.a turn) (registers regs.old accumulated.old bounds.old) (settle_two start.choices.mode p.b 0 (registers regs.old accumulated.old bounds.old))) result (registers regs.new accumulated.new bounds.new) }
+fn carry(start: Start, turn: Result<Turn, Refusal>, p: Parts, registers: &mut Registers) -> Advance
+    ensures { Always (carried start (turn_outcome p.a turn) registers.old (settle_two start.choices.mode p.b 0 registers.old)) result registers.new }
 {
     match turn {
-        Turn::Writes { next, bound, value } => {
+        Ok(Turn { next, bound, value }) => {
             let choices = start.choices;
             let mode = choices.mode;
             let w = Write {
@@ -40,127 +32,86 @@ fn carry(
                 bound,
                 value,
             };
-            put(mode, p.b, 0, w, regs, accumulated, bounds);
+            put(mode, p.b, 0, w, registers);
             to(start, next)
         }
-        Turn::Refuses(r) => refuse(start, r),
+        Err(r) => refuse(start, r),
     }
 }
 
-fn read<'a>(
-    pc: u64,
-    p: Parts,
-    regs: &'a [u64; 16],
-    accumulated: &'a [bool; 16],
-    bounds: &'a [u8; 16],
-) -> Source
-    ensures { result ≡ one_of p.b p.imm (seen pc (registers regs.now accumulated.now bounds.now)) }
+fn read(pc: u64, p: Parts, registers: &Registers) -> Source
+    ensures { result ≡ one_of p.b p.imm (seen pc registers.now) }
 {
     Source {
         pc,
-        s: registers::value_at(regs, accumulated, p.b),
-        y: registers::bound_at(bounds, p.b),
+        s: registers.value_at(p.b),
+        y: registers.bound_at(p.b),
         imm: p.imm,
     }
 }
 
-fn limbs(
-    mode: Mode,
-    p: Parts,
-    regs: &mut [u64; 16],
-    accumulated: &mut [bool; 16],
-    bounds: &mut [u8; 16],
-) -> bool
+fn limbs(mode: Mode, p: Parts, registers: &mut Registers) -> bool
     requires { form_of p.op ≡ F.I }
-    ensures { limbed result (registers regs.new accumulated.new bounds.new) ≡ limbs_in mode document_notes (instruction_of p) (registers regs.old accumulated.old bounds.old) }
+    ensures { limbed result registers.new ≡ limbs_in mode document_notes (instruction_of p) registers.old }
 {
     match mode {
-        Mode::Deferred => deferred::limbs_of_immediate(p, regs, accumulated, bounds),
+        Mode::Deferred => deferred::limbs_of_immediate(p, registers),
         Mode::Plain => false,
     }
 }
 
-fn on_whole(
-    start: Start,
-    p: Parts,
-    regs: &mut [u64; 16],
-    accumulated: &mut [bool; 16],
-    bounds: &mut [u8; 16],
-    m: &[u8],
-) -> Advance
+fn on_whole(start: Start, p: Parts, registers: &mut Registers, m: &[u8]) -> Advance
     requires { form_of p.op ≡ F.I }
-    ensures { advanced result (registers regs.new accumulated.new bounds.new) m.now ≡ on_whole start (instruction_of p) (registers regs.old accumulated.old bounds.old) m.now }
+    ensures { advanced result registers.new m.now ≡ on_whole start (instruction_of p) registers.old m.now }
 {
     let op = p.op;
-    let turn = immediate::decide(op, read(start.pc, p, regs, accumulated, bounds), m);
-    carry(start, turn, p, regs, accumulated, bounds)
+    let turn = immediate::decide(op, read(start.pc, p, registers), m);
+    carry(start, turn, p, registers)
 }
 
-fn executed(
-    start: Start,
-    p: Parts,
-    regs: &mut [u64; 16],
-    accumulated: &mut [bool; 16],
-    bounds: &mut [u8; 16],
-    m: &[u8],
-) -> Advance
+fn executed(start: Start, p: Parts, registers: &mut Registers, m: &[u8]) -> Advance
     requires { form_of p.op ≡ F.I }
-    ensures { advanced result (registers regs.new accumulated.new bounds.new) m.now ≡ doing start (instruction_of p) (registers regs.old accumulated.old bounds.old) m.now }
+    ensures { advanced result registers.new m.now ≡ doing start (instruction_of p) registers.old m.now }
 {
     let choices = start.choices;
     let mode = choices.mode;
-    if limbs(mode, p, regs, accumulated, bounds) {
+    if limbs(mode, p, registers) {
         return onward(start);
     }
-    on_whole(start, p, regs, accumulated, bounds, m)
+    on_whole(start, p, registers, m)
 }
 
 pub(crate) fn obey(
     start: Start,
     op: Opcode,
     word: u32,
-    regs: &mut [u64; 16],
-    accumulated: &mut [bool; 16],
-    bounds: &mut [u8; 16],
+    registers: &mut Registers,
     m: &[u8],
 ) -> Advance
     requires { form_of op ≡ F.I }
-    ensures { advanced result (registers regs.new accumulated.new bounds.new) m.now ≡ obeyed start (decoded_of (apart_of op word)) (registers regs.old accumulated.old bounds.old) m.now }
+    ensures { advanced result registers.new m.now ≡ obeyed start (decoded_of (apart_of op word)) registers.old m.now }
 {
     let p = parts(op, word, forms::immediate(Form::I, word));
-    executed(start, p, regs, accumulated, bounds, m)
+    executed(start, p, registers, m)
 }
 
 // A shift has no limb form and sees no memory.
-fn shifted(
-    start: Start,
-    p: Parts,
-    regs: &mut [u64; 16],
-    accumulated: &mut [bool; 16],
-    bounds: &mut [u8; 16],
-) -> Advance
+fn shifted(start: Start, p: Parts, registers: &mut Registers) -> Advance
     requires { form_of p.op ≡ F.Shift }
-    ensures { Always (doing start (instruction_of p) (registers regs.old accumulated.old bounds.old)) result (registers regs.new accumulated.new bounds.new) }
+    ensures { Always (doing start (instruction_of p) registers.old) result registers.new }
 {
     let op = p.op;
-    let turn = immediate::shift(op, read(start.pc, p, regs, accumulated, bounds));
-    carry(start, turn, p, regs, accumulated, bounds)
+    let turn = immediate::shift(op, read(start.pc, p, registers));
+    carry(start, Ok(turn), p, registers)
 }
 
-pub(crate) fn obey_shift(
-    start: Start,
-    op: Opcode,
-    word: u32,
-    regs: &mut [u64; 16],
-    accumulated: &mut [bool; 16],
-    bounds: &mut [u8; 16],
-) -> Advance
+pub(crate) fn obey_shift(start: Start, op: Opcode, word: u32, registers: &mut Registers) -> Advance
     requires { form_of op ≡ F.Shift }
-    ensures { Always (obeyed start (decoded_of (apart_of op word)) (registers regs.old accumulated.old bounds.old)) result (registers regs.new accumulated.new bounds.new) }
+    ensures { Always (obeyed start (decoded_of (apart_of op word)) registers.old) result registers.new }
 {
     if forms::unused(Form::Shift, word) != 0 {
         return refuse(start, Refusal::UnusedBits { word });
     }
     let p = parts(op, word, forms::immediate(Form::Shift, word));
-    shifted(start, p, regs, accumulated, bounds)
+    shifted(start, p, registers)
 }

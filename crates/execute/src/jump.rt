@@ -3,28 +3,20 @@ ghost use Rattle.std.specs.Prelude.{◌≡◌};
 ghost use Rattle.opcode.specs.Opcodes.{form_of};
 ghost use Rattle.opcode.specs.declared.Form.TheVariants as F;
 ghost use Rattle.words.specs.Words.{apart_of, decoded_of};
-ghost use Rattle.state.specs.Registers.{registers};
 ghost use Rattle.execute.specs.Starts.{obeyed, Always};
 
 use crate::carrying::{parts, to};
 use crate::{Advance, Start};
 use opcode::{Form, Opcode};
-use state::registers;
+use state::registers::Registers;
 
-pub(crate) fn obey(
-    start: Start,
-    op: Opcode,
-    word: u32,
-    regs: &mut [u64; 16],
-    accumulated: &mut [bool; 16],
-    bounds: &mut [u8; 16],
-) -> Advance
+pub(crate) fn obey(start: Start, op: Opcode, word: u32, registers: &mut Registers) -> Advance
     requires { form_of op ≡ F.J }
-    ensures { Always (obeyed start (decoded_of (apart_of op word)) (registers regs.old accumulated.old bounds.old)) result (registers regs.new accumulated.new bounds.new) }
+    ensures { Always (obeyed start (decoded_of (apart_of op word)) registers.old) result registers.new }
 {
     let p = parts(op, word, forms::immediate(Form::J, word));
     let link = value::address::plus(start.pc, 4);
     let bits = bound::from_constant(link);
-    registers::write(regs, accumulated, bounds, p.a, link, false, bits);
+    registers.write(p.a, link, false, bits);
     to(start, value::address::plus(start.pc, p.imm))
 }

@@ -1,15 +1,13 @@
 // A word obeyed, in the plain mode and in the deferred one.
 #![tactic(auto)]
 
-ghost use Rattle.std.specs.Prelude.{◌≡◌};
-ghost use Rattle.state.specs.Registers.{registers};
-ghost use Rattle.pending.specs.declared.Checks.TheVariants.{Nothing};
+ghost use Rattle.std.specs.Prelude.{None, ◌≡◌};
 ghost use Rattle.execute.specs.Execute.{admits};
 ghost use Rattle.execute.specs.declared.Went.TheVariants as W;
 
-use pending::{Checks, Room};
+use pending::{Check, Room};
 use refusal::Refusal;
-use state::formed;
+use state::registers::Registers;
 
 mod alone; // alone.rt: Ecall and Ebreak
 mod branch; // branch.rt: the branches
@@ -55,35 +53,30 @@ pub struct Advance {
     pub went: Went,
     pub pc: u64,
     pub halted: bool,
-    pub checks: Checks,
+    pub checks: Option<Check>,
 }
 
 // A step that is refused leaves everything as it was.
 pub fn refuse(start: Start, r: Refusal) -> Advance
-    ensures { result ≡ record { went = W.Refused r; pc = start.pc; halted = start.halted; checks = Nothing } }
+    ensures { result ≡ record { went = W.Refused r; pc = start.pc; halted = start.halted; checks = None } }
 {
     Advance {
         went: Went::Refused(r),
         pc: start.pc,
         halted: start.halted,
-        checks: Checks::Nothing,
+        checks: None,
     }
 }
 
 // Whether the mode takes such registers: well-formed ones, and in the plain mode none that is accumulated.
-pub fn admits<'a>(
-    mode: Mode,
-    regs: &'a [u64; 16],
-    accumulated: &'a [bool; 16],
-    bounds: &'a [u8; 16],
-) -> bool
-    ensures { result ≡ admits mode (registers regs.now accumulated.now bounds.now) }
+pub fn admits(mode: Mode, registers: &Registers) -> bool
+    ensures { result ≡ admits mode registers.now }
 {
-    if !formed::well_formed(regs, accumulated, bounds) {
+    if !registers.well_formed() {
         return false;
     }
     match mode {
-        Mode::Plain => formed::all_whole(accumulated),
+        Mode::Plain => registers.all_whole(),
         Mode::Deferred => true,
     }
 }

@@ -1,16 +1,15 @@
 // The instructions on two registers: Add and Sub on limbs where the mode has that form, and all on whole values.
-ghost use Rattle.std.specs.Prelude.{◌≡◌};
+ghost use Rattle.std.specs.Prelude.{Ok, Some, ◌≡◌};
 ghost use Rattle.opcode.specs.Opcodes.{form_of};
 ghost use Rattle.opcode.specs.declared.Form.TheVariants as F;
 ghost use Rattle.instruction.specs.Operands.{instruction_of};
 ghost use Rattle.words.specs.Words.{apart_of, decoded_of};
-ghost use Rattle.state.specs.Registers.{registers};
 ghost use Rattle.effect.specs.Notes.{document_notes};
 ghost use Rattle.effect.specs.Operations.{plus64};
 ghost use Rattle.effect.specs.Effects.{seen};
 ghost use Rattle.effect.specs.Tables.{deed_outcome, two_of};
 ghost use Rattle.deferred.specs.Limbs.{limbed};
-ghost use Rattle.pending.specs.declared.Checks.TheVariants.{One};
+ghost use Rattle.pending.specs.Pending.{check};
 ghost use Rattle.execute.specs.Modes.{limbs_in};
 ghost use Rattle.execute.specs.Starts.{obeyed, doing, on_whole, carried, Always, settle_two};
 ghost use Rattle.execute.specs.declared.Went.TheVariants as W;
@@ -20,30 +19,23 @@ use crate::{Advance, Mode, Start, Went, refuse};
 use effect::registers::{Deed, Operands, decide};
 use instruction::Parts;
 use opcode::{Form, Opcode};
-use pending::Checks;
+use pending::Check;
 use refusal::Refusal;
-use state::registers;
+use state::registers::Registers;
 
 fn checked(start: Start, bound: u8, value: u64) -> Advance
-    ensures { result ≡ record { went = W.On; pc = plus64 start.pc 4; halted = start.halted; checks = One bound value } }
+    ensures { result ≡ record { went = W.On; pc = plus64 start.pc 4; halted = start.halted; checks = Some (check value bound) } }
 {
     Advance {
         went: Went::On,
         pc: value::address::plus(start.pc, 4),
         halted: start.halted,
-        checks: Checks::One { bound, value },
+        checks: Some(Check { bound, value }),
     }
 }
 
-fn carry(
-    start: Start,
-    deed: Deed,
-    p: Parts,
-    regs: &mut [u64; 16],
-    accumulated: &mut [bool; 16],
-    bounds: &mut [u8; 16],
-) -> Advance
-    ensures { Always (carried start (deed_outcome p.a start.pc deed) (registers regs.old accumulated.old bounds.old) (settle_two start.choices.mode p.b p.c (registers regs.old accumulated.old bounds.old))) result (registers regs.new accumulated.new bounds.new) }
+fn act(start: Start, deed: Deed, p: Parts, registers: &mut Registers) -> Advance
+    ensures { Always (carried start (deed_outcome p.a start.pc (Ok deed)) registers.old (settle_two start.choices.mode p.b p.c registers.old)) result registers.new }
 {
     let choices = start.choices;
     let mode = choices.mode;
@@ -54,7 +46,7 @@ fn carry(
                 bound,
                 value,
             };
-            put(mode, p.b, p.c, w, regs, accumulated, bounds);
+            put(mode, p.b, p.c, w, registers);
             onward(start)
         }
         Deed::Checks { bound, value } => {
@@ -67,99 +59,76 @@ fn carry(
                 bound,
                 value,
             };
-            put(mode, p.b, p.c, w, regs, accumulated, bounds);
+            put(mode, p.b, p.c, w, registers);
             checked(start, bound, value)
         }
         Deed::Passes => {
-            settle_two(mode, p.b, p.c, regs, accumulated);
+            settle_two(mode, p.b, p.c, registers);
             onward(start)
         }
-        Deed::Refuses(r) => refuse(start, r),
     }
 }
 
-fn read<'a>(
-    pc: u64,
-    p: Parts,
-    regs: &'a [u64; 16],
-    accumulated: &'a [bool; 16],
-    bounds: &'a [u8; 16],
-) -> Operands
-    ensures { result ≡ two_of p.a p.b p.c (seen pc (registers regs.now accumulated.now bounds.now)) }
+fn carry(start: Start, deed: Result<Deed, Refusal>, p: Parts, registers: &mut Registers) -> Advance
+    ensures { Always (carried start (deed_outcome p.a start.pc deed) registers.old (settle_two start.choices.mode p.b p.c registers.old)) result registers.new }
+{
+    match deed {
+        Ok(deed) => act(start, deed, p, registers),
+        Err(r) => refuse(start, r),
+    }
+}
+
+fn read(pc: u64, p: Parts, registers: &Registers) -> Operands
+    ensures { result ≡ two_of p.a p.b p.c (seen pc registers.now) }
 {
     Operands {
         pc,
-        s: registers::value_at(regs, accumulated, p.b),
-        t: registers::value_at(regs, accumulated, p.c),
-        x: registers::bound_at(bounds, p.a),
-        y: registers::bound_at(bounds, p.b),
-        z: registers::bound_at(bounds, p.c),
+        s: registers.value_at(p.b),
+        t: registers.value_at(p.c),
+        x: registers.bound_at(p.a),
+        y: registers.bound_at(p.b),
+        z: registers.bound_at(p.c),
     }
 }
 
-fn limbs(
-    mode: Mode,
-    p: Parts,
-    regs: &mut [u64; 16],
-    accumulated: &mut [bool; 16],
-    bounds: &mut [u8; 16],
-) -> bool
+fn limbs(mode: Mode, p: Parts, registers: &mut Registers) -> bool
     requires { form_of p.op ≡ F.R }
-    ensures { limbed result (registers regs.new accumulated.new bounds.new) ≡ limbs_in mode document_notes (instruction_of p) (registers regs.old accumulated.old bounds.old) }
+    ensures { limbed result registers.new ≡ limbs_in mode document_notes (instruction_of p) registers.old }
 {
     match mode {
-        Mode::Deferred => deferred::limbs_of_registers(p, regs, accumulated, bounds),
+        Mode::Deferred => deferred::limbs_of_registers(p, registers),
         Mode::Plain => false,
     }
 }
 
-fn on_whole(
-    start: Start,
-    p: Parts,
-    regs: &mut [u64; 16],
-    accumulated: &mut [bool; 16],
-    bounds: &mut [u8; 16],
-) -> Advance
+fn on_whole(start: Start, p: Parts, registers: &mut Registers) -> Advance
     requires { form_of p.op ≡ F.R }
-    ensures { Always (on_whole start (instruction_of p) (registers regs.old accumulated.old bounds.old)) result (registers regs.new accumulated.new bounds.new) }
+    ensures { Always (on_whole start (instruction_of p) registers.old) result registers.new }
 {
     let op = p.op;
-    let deed = decide(op, read(start.pc, p, regs, accumulated, bounds));
-    carry(start, deed, p, regs, accumulated, bounds)
+    let deed = decide(op, read(start.pc, p, registers));
+    carry(start, deed, p, registers)
 }
 
-fn executed(
-    start: Start,
-    p: Parts,
-    regs: &mut [u64; 16],
-    accumulated: &mut [bool; 16],
-    bounds: &mut [u8; 16],
-) -> Advance
+fn executed(start: Start, p: Parts, registers: &mut Registers) -> Advance
     requires { form_of p.op ≡ F.R }
-    ensures { Always (doing start (instruction_of p) (registers regs.old accumulated.old bounds.old)) result (registers regs.new accumulated.new bounds.new) }
+    ensures { Always (doing start (instruction_of p) registers.old) result registers.new }
 {
     let choices = start.choices;
     let mode = choices.mode;
-    if limbs(mode, p, regs, accumulated, bounds) {
+    if limbs(mode, p, registers) {
         return onward(start);
     }
-    on_whole(start, p, regs, accumulated, bounds)
+    on_whole(start, p, registers)
 }
 
-pub(crate) fn obey(
-    start: Start,
-    op: Opcode,
-    word: u32,
-    regs: &mut [u64; 16],
-    accumulated: &mut [bool; 16],
-    bounds: &mut [u8; 16],
-) -> Advance
+pub(crate) fn obey(start: Start, op: Opcode, word: u32, registers: &mut Registers) -> Advance
     requires { form_of op ≡ F.R }
-    ensures { Always (obeyed start (decoded_of (apart_of op word)) (registers regs.old accumulated.old bounds.old)) result (registers regs.new accumulated.new bounds.new) }
+    ensures { Always (obeyed start (decoded_of (apart_of op word)) registers.old) result registers.new }
 {
     if forms::unused(Form::R, word) != 0 {
         return refuse(start, Refusal::UnusedBits { word });
     }
     let p = parts(op, word, forms::immediate(Form::R, word));
-    executed(start, p, regs, accumulated, bounds)
+    executed(start, p, registers)
 }

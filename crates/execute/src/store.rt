@@ -7,7 +7,7 @@ ghost use Rattle.instruction.specs.Operands.{instruction_of};
 ghost use Rattle.instruction.specs.Kinds.{store_kind_of};
 ghost use Rattle.words.specs.Words.{apart_of, decoded_of};
 ghost use Rattle.state.specs.Held.{value_of};
-ghost use Rattle.state.specs.Registers.{registers, held_at};
+ghost use Rattle.state.specs.Registers.{holds};
 ghost use Rattle.effect.specs.Operations.{plus64, store_size};
 ghost use Rattle.execute.specs.Starts.{advanced, obeyed, doing};
 
@@ -15,39 +15,32 @@ use crate::carrying::{onward, parts, settle_two};
 use crate::{Advance, Start, refuse};
 use effect::store::store_size;
 use instruction::Parts;
-use memory::Stored;
 use opcode::{Form, Opcode};
-use state::registers;
+use refusal::Refusal;
+use state::registers::Registers;
 
 // The bytes are stored, or the store is refused.
-fn stored<'a>(p: Parts, regs: &'a [u64; 16], accumulated: &'a [bool; 16], m: &mut [u8]) -> Stored
-    ensures { (result ≡ store_of (store_size (store_kind_of p.op)) (length m.old) (plus64 (value_of (held_at regs.now accumulated.now p.a)) p.imm)) × (m.new ≡ memory_after (store_size (store_kind_of p.op)) m.old (plus64 (value_of (held_at regs.now accumulated.now p.a)) p.imm) (value_of (held_at regs.now accumulated.now p.b))) }
+fn stored(p: Parts, registers: &Registers, m: &mut [u8]) -> Result<(), Refusal>
+    ensures { (result ≡ store_of (store_size (store_kind_of p.op)) (length m.old) (plus64 (value_of (holds registers.now p.a)) p.imm)) × (m.new ≡ memory_after (store_size (store_kind_of p.op)) m.old (plus64 (value_of (holds registers.now p.a)) p.imm) (value_of (holds registers.now p.b))) }
 {
     let op = p.op;
-    let s = registers::value_at(regs, accumulated, p.a);
-    let t = registers::value_at(regs, accumulated, p.b);
+    let s = registers.value_at(p.a);
+    let t = registers.value_at(p.b);
     memory::store(m, value::address::plus(s, p.imm), store_size(op), t)
 }
 
-fn executed(
-    start: Start,
-    p: Parts,
-    regs: &mut [u64; 16],
-    accumulated: &mut [bool; 16],
-    bounds: &mut [u8; 16],
-    m: &mut [u8],
-) -> Advance
+fn executed(start: Start, p: Parts, registers: &mut Registers, m: &mut [u8]) -> Advance
     requires { form_of p.op ≡ F.S }
-    ensures { advanced result (registers regs.new accumulated.new bounds.new) m.new ≡ doing start (instruction_of p) (registers regs.old accumulated.old bounds.old) m.old }
+    ensures { advanced result registers.new m.new ≡ doing start (instruction_of p) registers.old m.old }
 {
-    match stored(p, regs, accumulated, m) {
-        Stored::Done => {
+    match stored(p, registers, m) {
+        Ok(()) => {
             let choices = start.choices;
             let mode = choices.mode;
-            settle_two(mode, p.a, p.b, regs, accumulated);
+            settle_two(mode, p.a, p.b, registers);
             onward(start)
         }
-        Stored::Refused(r) => refuse(start, r),
+        Err(r) => refuse(start, r),
     }
 }
 
@@ -55,14 +48,12 @@ pub(crate) fn obey(
     start: Start,
     op: Opcode,
     word: u32,
-    regs: &mut [u64; 16],
-    accumulated: &mut [bool; 16],
-    bounds: &mut [u8; 16],
+    registers: &mut Registers,
     m: &mut [u8],
 ) -> Advance
     requires { form_of op ≡ F.S }
-    ensures { advanced result (registers regs.new accumulated.new bounds.new) m.new ≡ obeyed start (decoded_of (apart_of op word)) (registers regs.old accumulated.old bounds.old) m.old }
+    ensures { advanced result registers.new m.new ≡ obeyed start (decoded_of (apart_of op word)) registers.old m.old }
 {
     let p = parts(op, word, forms::immediate(Form::S, word));
-    executed(start, p, regs, accumulated, bounds, m)
+    executed(start, p, registers, m)
 }

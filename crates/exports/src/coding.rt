@@ -7,9 +7,7 @@ ghost use Rattle.exports.specs.Coding.{packed_of, decoded_triple, encoded_number
 
 use crate::triple::{Triple, refused, write_triple};
 use instruction::{Instruction, Parts};
-use opcode::Found;
-use refusal::number_of;
-use words::{Decoded, Encoded};
+use refusal::{Refusal, number_of};
 
 fn packed(p: Parts) -> u64
     ensures { result ≡ packed_of p }
@@ -21,11 +19,11 @@ fn packed(p: Parts) -> u64
         + 0x100_0000 * p.c as u64
 }
 
-fn decoded(d: Decoded) -> Triple
+fn decoded(d: Result<Instruction, Refusal>) -> Triple
     ensures { result ≡ decoded_triple d }
 {
     match d {
-        Decoded::Instruction(i) => {
+        Ok(i) => {
             let p = instruction::parts_of(i);
             Triple {
                 first: 0,
@@ -33,7 +31,7 @@ fn decoded(d: Decoded) -> Triple
                 third: p.imm,
             }
         }
-        Decoded::Refused(r) => refused(r),
+        Err(r) => refused(r),
     }
 }
 
@@ -44,12 +42,12 @@ pub extern "C" fn oracle_decode(answer: &mut [u8], word: u32)
     write_triple(answer, decoded(words::decode(word)));
 }
 
-fn encoded(e: Encoded) -> u64
+fn encoded(e: Result<u32, Refusal>) -> u64
     ensures { result ≡ encoded_number e }
 {
     match e {
-        Encoded::Word(w) => w as u64,
-        Encoded::Refused(r) => 0xFFFF_FFFF_FFFF_FFFF - number_of(r),
+        Ok(w) => w as u64,
+        Err(r) => 0xFFFF_FFFF_FFFF_FFFF - number_of(r),
     }
 }
 
@@ -57,8 +55,8 @@ pub fn given(opcode: u8, a: u8, b: u8, c: u8, imm: u64) -> Instruction
     ensures { result ≡ given_of (opcode_in opcode_number opcode) a b c imm }
 {
     match opcode::opcode_of(opcode) {
-        Found::Op(op) => instruction::instruction_of(Parts { op, a, b, c, imm }),
-        Found::Nothing => Instruction::Add {
+        Some(op) => instruction::instruction_of(Parts { op, a, b, c, imm }),
+        None => Instruction::Add {
             rd: 16,
             rs1: 16,
             rs2: 16,

@@ -5,19 +5,19 @@ ghost use Rattle.exports.specs.Triples.{tripled};
 ghost use Rattle.exports.specs.Lists.{counted_triple, entry_code, entry_in};
 
 use crate::triple::{Triple, refused, write_triple};
-use pending::{Counted, Entry};
-use refusal::number_of;
+use pending::Entry;
+use refusal::{Refusal, number_of};
 
-fn counted(c: Counted) -> Triple
+fn counted(c: Result<usize, Refusal>) -> Triple
     ensures { result ≡ counted_triple c }
 {
     match c {
-        Counted::Count(n) => Triple {
+        Ok(n) => Triple {
             first: 0,
             second: n as u64,
             third: 0,
         },
-        Counted::Refused(r) => refused(r),
+        Err(r) => refused(r),
     }
 }
 
@@ -52,11 +52,11 @@ pub extern "C" fn oracle_empty(
     write_triple(answer, counted(c));
 }
 
-fn give_entry(answer: &mut [u8], e: Entry) -> u64
+fn give_entry(answer: &mut [u8], e: Result<Option<Entry>, Refusal>) -> u64
     ensures { (result ≡ entry_code e) × (answer.new ≡ entry_in e answer.old) }
 {
     match e {
-        Entry::Check { value, bound, pc } => {
+        Ok(Some(Entry { value, bound, pc })) => {
             let check = Triple {
                 first: value,
                 second: bound as u64,
@@ -65,8 +65,8 @@ fn give_entry(answer: &mut [u8], e: Entry) -> u64
             write_triple(answer, check);
             0
         }
-        Entry::Nothing => 64,
-        Entry::Refused(r) => number_of(r),
+        Ok(None) => 64,
+        Err(r) => number_of(r),
     }
 }
 

@@ -1,4 +1,5 @@
 -- What executing one instruction answers, from the tests that the code makes.
+use Rattle.std.specs.Prelude.{Err, Ok, Result}
 use Prim.Native.Nat.{ℕ}
 use native.Mathlib.Omega.{arith}
 use mathlib.Core.Path.{◌≡◌, refl, sym, ap, ◌∙◌}
@@ -7,9 +8,6 @@ use Rattle.refusal.specs.Stops.{refusal_of}
 use Rattle.refusal.specs.declared.Refusal.{Refusal}
 use Rattle.effect.specs.Notes.{Notes}
 use Rattle.words.specs.Words.{fits_of, word_of, encoded_in, encode_in, decode_in}
-use Rattle.words.specs.declared.Decoded.{Decoded}
-use Rattle.words.specs.declared.Encoded.{Encoded}
-use Rattle.words.specs.declared.Encoded.TheVariants as E
 use Rattle.words.proofs.OneWord.{document}
 use Rattle.instruction.specs.declared.Instruction.{Instruction}
 use Rattle.pending.specs.declared.Room.TheVariants.{Unlent}
@@ -27,27 +25,27 @@ module _ (k : Mode) (N : Notes) (i : Instruction) (w : World) where
   not-admitted e = rw e
 
   -- the encoder refuses what doesn't fit
-  pub not-encoded : (r : Refusal) (x : Encoded) → x ≡ encode_in opcode_number i → x ≡ E.Refused r → refused (refusal_of 9 0) w ≡ execute_one k N i w
+  pub not-encoded : (r : Refusal) (x : Result ℕ Refusal) → x ≡ encode_in opcode_number i → x ≡ Err r → refused (refusal_of 9 0) w ≡ execute_one k N i w
   unfolding execute_one encoded_in
   not-encoded r x e f = told (admits k w.registers) (fits_of i) (sym e ∙ f)
     where
       told : (a t : Bool)
-          → cond t (E.Word (word_of (form_of (parts_of i).op) (opcode_number (parts_of i).op) (parts_of i))) (E.Refused (refusal_of 9 0)) ≡ E.Refused r
+          → cond t (Ok (word_of (form_of (parts_of i).op) (opcode_number (parts_of i).op) (parts_of i))) (Err (refusal_of 9 0)) ≡ Err r
           → refused (refusal_of 9 0) w ≡ cond (a && t) (execute k Unlent N i w) (refused (refusal_of 9 0) w)
       told a true f = let z : ◌≡◌ {A = ℕ} 0 1 = cc in absurd (omega arith)
       told true false f = refl
       told false false f = refl
 
 -- and the word of what fits is obeyed as the instruction
-pub encoded : (k : Mode) (i : Instruction) (w : World) (word : ℕ) (x : Stepped) → E.Word word ≡ encode_in opcode_number i
+pub encoded : (k : Mode) (i : Instruction) (w : World) (word : ℕ) (x : Stepped) → Ok word ≡ encode_in opcode_number i
     → admits k w.registers ≡ true → x ≡ obey k Unlent document_rules (decode_in opcode_number word) w
     → x ≡ execute_one k document_rules.notes i w
 unfolding execute_one obey encoded_in
 encoded k i w word x e a q =
-    q ∙ ap (λ (d : Decoded). obey k Unlent document_rules d w) (document.read_again i word (sym e)) ∙ rw a (told (fits_of i) e)
+    q ∙ ap (λ (d : Result Instruction Refusal). obey k Unlent document_rules d w) (document.read_again i word (sym e)) ∙ rw a (told (fits_of i) e)
   where
     told : (t : Bool)
-        → E.Word word ≡ cond t (E.Word (word_of (form_of (parts_of i).op) (opcode_number (parts_of i).op) (parts_of i))) (E.Refused (refusal_of 9 0))
+        → Ok word ≡ cond t (Ok (word_of (form_of (parts_of i).op) (opcode_number (parts_of i).op) (parts_of i))) (Err (refusal_of 9 0))
         → execute k Unlent document_rules.notes i w ≡ cond t (execute k Unlent document_rules.notes i w) (refused (refusal_of 9 0) w)
     told true f = refl
     told false f = let z : ◌≡◌ {A = ℕ} 0 1 = cc in absurd (omega arith)

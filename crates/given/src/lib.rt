@@ -1,11 +1,10 @@
 // One given instruction, in the plain mode and in the deferred one.
 #![tactic(auto)]
 
-ghost use Rattle.std.specs.Prelude.{◌≡◌};
+ghost use Rattle.std.specs.Prelude.{None, ◌≡◌};
 ghost use Rattle.refusal.specs.Stops.{refusal_of};
 ghost use Rattle.words.specs.Words.{decode_in};
 ghost use Rattle.pending.specs.declared.Room.TheVariants.{Unlent};
-ghost use Rattle.pending.specs.declared.Checks.TheVariants.{Nothing};
 ghost use Rattle.execute.specs.World.{world_of};
 ghost use Rattle.execute.specs.Rules.{rules_of, obey};
 ghost use Rattle.execute.specs.declared.Went.TheVariants.{Refused};
@@ -14,24 +13,23 @@ ghost use Rattle.given.specs.Given.{execute_one, executed};
 use execute::word::obey;
 use execute::{Choices, Start, Went, admits};
 use instruction::Instruction;
-use pending::{Checks, Room};
+use pending::{Check, Room};
 use refusal::Refusal;
 use state::State;
-use words::Encoded;
 
 #[derive(Clone, Copy)]
 pub struct Executed {
     pub went: Went,
-    pub checks: Checks,
+    pub checks: Option<Check>,
     pub state: State,
 }
 
 fn malformed(s: State) -> Executed
-    ensures { result ≡ record { went = Refused (refusal_of 9 0); checks = Nothing; state = s } }
+    ensures { result ≡ record { went = Refused (refusal_of 9 0); checks = None; state = s } }
 {
     Executed {
         went: Went::Refused(Refusal::Malformed),
-        checks: Checks::Nothing,
+        checks: None,
         state: s,
     }
 }
@@ -39,22 +37,20 @@ fn malformed(s: State) -> Executed
 fn execute_word(choices: Choices, word: u32, s: State, m: &mut [u8]) -> Executed
     ensures { executed result m.new ≡ obey choices.mode Unlent (rules_of choices) (decode_in (rules_of choices).number word) (world_of s m.old) }
 {
-    let mut regs = s.regs;
-    let mut accumulated = s.accumulated;
-    let mut bounds = s.bounds;
+    let mut registers = s.registers;
     let start = Start {
         choices,
         room: Room::Unlent,
         pc: s.pc,
         halted: s.halted,
     };
-    let a = obey(start, word, &mut regs, &mut accumulated, &mut bounds, m);
+    let a = obey(start, word, &mut registers, m);
     let went = a.went;
     let checks = a.checks;
     Executed {
         went,
         checks,
-        state: state::together(a.pc, a.halted, regs, accumulated, bounds),
+        state: state::together(a.pc, a.halted, registers),
     }
 }
 
@@ -63,11 +59,11 @@ pub fn execute(choices: Choices, i: Instruction, s: State, m: &mut [u8]) -> Exec
     ensures { executed result m.new ≡ execute_one choices.mode (rules_of choices).notes i (world_of s m.old) }
 {
     let mode = choices.mode;
-    if !admits(mode, &s.regs, &s.accumulated, &s.bounds) {
+    if !admits(mode, &s.registers) {
         return malformed(s);
     }
     match words::encode(i) {
-        Encoded::Word(word) => execute_word(choices, word, s, m),
-        Encoded::Refused(_) => malformed(s),
+        Ok(word) => execute_word(choices, word, s, m),
+        Err(_) => malformed(s),
     }
 }

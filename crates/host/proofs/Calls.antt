@@ -8,7 +8,7 @@ use lib.Dec.{leb, eqb}
 use borrow.Author.Tests.{eq-eqb, ne_eqb, eqb-true}
 use Rattle.refusal.specs.Stops.{code_of, particular_at}
 use Rattle.memory.specs.Bytes.{number_at}
-use Rattle.state.specs.Formed.{all_below, registers_of}
+use Rattle.state.specs.Formed.{all_below}
 use Rattle.execute.specs.Execute.{admits}
 use Rattle.refusal.specs.declared.Stop.TheVariants as S
 use Rattle.pending.specs.Pending.{room_at, no_lists}
@@ -53,7 +53,7 @@ module _ (st m an : List ℕ) (fuel mode : ℕ) where
   refused code an' t c e = rw (t, c, e)
 
   pub call-refused : (code : ℕ) (an' : List ℕ) (r : Reading) (t : Bool) → r ≡ read_in st
-      → t ≡ (eqb (length an) ANSWER_BYTES && leb mode 1 && r.laid && admits (mode_of mode) (registers_of r.state)) → t ≡ false
+      → t ≡ (eqb (length an) ANSWER_BYTES && leb mode 1 && r.laid && admits (mode_of mode) r.state.registers) → t ≡ false
       → (code ≡ 9) × (an' ≡ written ANSWER_BYTES (answer_bytes 9 0 0) an) → called code st m an' ≡ call_of st m an fuel mode
   unfolding call_taken
   call-refused code an' r t e q f h = refused code an' ((rw e at (sym q)) ∙ f) h.0 h.1
@@ -64,7 +64,7 @@ module _ (st m an : List ℕ) (fuel mode : ℕ) where
   call-of-another-length code an' n h =
       refused code an' (rw (ne_eqb (length st) STATE_BYTES n) (none_of (eqb (length an) ANSWER_BYTES) (leb mode 1))) h.0 h.1
     where
-      none_of : (a b : Bool) → (a && b && false && admits (mode_of mode) (registers_of (state_in st))) ≡ false
+      none_of : (a b : Bool) → (a && b && false && admits (mode_of mode) (state_in st).registers) ≡ false
       none_of true true = refl
       none_of true false = refl
       none_of false b = refl
@@ -74,11 +74,11 @@ module _ (st m an : List ℕ) (fuel mode : ℕ) where
     answer-size : length an ≡ ANSWER_BYTES
     unfolding call_taken
     answer-size =
-        eqb-true _ _ (first-of-four (eqb (length an) ANSWER_BYTES) (leb mode 1) (well_laid st) (admits (mode_of mode) (registers_of (state_in st))) t)
+        eqb-true _ _ (first-of-four (eqb (length an) ANSWER_BYTES) (leb mode 1) (well_laid st) (admits (mode_of mode) (state_in st).registers) t)
 
-    allowed : (well_laid st ≡ true) × (admits (mode_of mode) (registers_of (state_in st)) ≡ true)
+    allowed : (well_laid st ≡ true) × (admits (mode_of mode) (state_in st).registers ≡ true)
     unfolding call_taken
-    allowed = last-of-four (eqb (length an) ANSWER_BYTES) (leb mode 1) (well_laid st) (admits (mode_of mode) (registers_of (state_in st))) t
+    allowed = last-of-four (eqb (length an) ANSWER_BYTES) (leb mode 1) (well_laid st) (admits (mode_of mode) (state_in st).registers) t
 
     state-size : well_laid st ≡ true → length st ≡ STATE_BYTES
     unfolding well_laid
@@ -98,7 +98,7 @@ module _ (st m an : List ℕ) (fuel mode : ℕ) where
         rw (t, ← (e ∙ ran), f, g, eq-eqb (length st) STATE_BYTES (state-size allowed.0), eq-eqb (length an) ANSWER_BYTES answer-size, c)
 
   pub call-served : (r : Reading) (t : Bool) → r ≡ read_in st
-      → t ≡ (eqb (length an) ANSWER_BYTES && leb mode 1 && r.laid && admits (mode_of mode) (registers_of r.state)) → t ≡ true
+      → t ≡ (eqb (length an) ANSWER_BYTES && leb mode 1 && r.laid && admits (mode_of mode) r.state.registers) → t ≡ true
       → (a : Answer) (st' an' : List ℕ) (code : ℕ) → a ≡ unlisted_run (record { mode = mode_of mode }) fuel (world_of r.state m)
       → (code ≡ code_of a.stop) × (st' ≡ written STATE_BYTES (state_bytes (state_of a.world)) st)
       × (an' ≡ written ANSWER_BYTES (answer_bytes (code_of a.stop) a.steps (particular_at a.stop)) an)

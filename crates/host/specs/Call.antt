@@ -1,7 +1,6 @@
 -- Document 01 on the host's call: "state, memory, a 24-byte answer, fuel, and a mode number, 0 plain or 1 deferred".
 use Rattle.std.specs.Prelude.{ℕ, Bool, cond, ◌&&◌, List, length, leb, eqb}
 use Rattle.refusal.specs.Stops.{code_of, particular_at}
-use Rattle.state.specs.Formed.{registers_of}
 use Rattle.state.specs.declared.State.{State}
 use Rattle.execute.specs.World.{World, world_of}
 use Rattle.execute.specs.Execute.{admits}
@@ -21,8 +20,7 @@ ran_on mode fuel s m = run (mode_of mode) document_rules fuel (world_of s m) no_
 
 -- a state by value again
 abbrev pub state_of : World → State
-state_of w =
-    record { pc = w.pc; halted = w.halted; regs = w.registers.values; accumulated = w.registers.accumulated; bounds = w.registers.bounds }
+state_of w = record { pc = w.pc; halted = w.halted; registers = w.registers }
 
 -- what a call leaves: its result, and the three lent slices
 pub record Called : Type 0 where
@@ -36,7 +34,7 @@ called code st m an = record { code = code; state = st; memory = m; answer = an 
 
 -- "A wrong length, mode or any state these rules forbid, its header too, gives 9": a state is taken if the mode's run admits it
 unfoldable pub call_taken : List ℕ → List ℕ → ℕ → Bool
-call_taken st an mode = eqb (length an) ANSWER_BYTES && leb mode 1 && well_laid st && admits (mode_of mode) (registers_of (state_in st))
+call_taken st an mode = eqb (length an) ANSWER_BYTES && leb mode 1 && well_laid st && admits (mode_of mode) (state_in st).registers
 
 -- "code, steps, particular"; "The call also returns the code"
 abbrev pub call_served : Answer → Called

@@ -3,7 +3,6 @@
 
 ghost use Rattle.std.specs.Prelude.{◌≡◌, ◌&&◌, eqb, leb};
 ghost use Rattle.pending.specs.Pending.{no_lists};
-ghost use Rattle.state.specs.Formed.{registers_of};
 ghost use Rattle.execute.specs.World.{world_of};
 ghost use Rattle.execute.specs.Execute.{admits};
 ghost use Rattle.refusal.specs.Stops.{code_of, particular_at};
@@ -36,7 +35,7 @@ pub fn mode_of(n: u64) -> Mode
 }
 
 fn call_taken(r: Reading, answer: usize, mode: u64) -> bool
-    ensures { result ≡ (eqb answer ANSWER_BYTES && leb mode 1 && r.laid && admits (mode_of mode) (registers_of r.state)) }
+    ensures { result ≡ (eqb answer ANSWER_BYTES && leb mode 1 && r.laid && admits (mode_of mode) r.state.registers) }
 {
     if answer != ANSWER_BYTES {
         return false;
@@ -47,8 +46,7 @@ fn call_taken(r: Reading, answer: usize, mode: u64) -> bool
     if !r.laid {
         return false;
     }
-    let s = r.state;
-    execute::admits(mode_of(mode), &s.regs, &s.accumulated, &s.bounds)
+    execute::admits(mode_of(mode), &r.state.registers)
 }
 
 // The run of a state that its mode takes, with no list lent: one leg.

@@ -1,8 +1,8 @@
 -- A table after a label is noted: that label is found, all others as before, and no slot is lost. Assumes nothing.
+use Rattle.std.specs.Prelude.{Some}
 use mathlib.Core.Path.{◌≡◌, refl, sym, ap, ◌∙◌, subst}
 use mathlib.Core.Bool.{Bool, true, false, cond, ◌&&◌}
 use mathlib.Core.List.{List, [], ◌∷◌}
-use mathlib.Core.Option.{some}
 use Prim.Native.Nat.{ℕ, zero, suc, ◌<◌}
 use native.Mathlib.Omega.{arith}
 use lib.Dec.{eqb}
@@ -166,15 +166,15 @@ module _ (text old new : List ℕ) (j place index : ℕ) (c : Changed old new j)
       go true q = let f : true ≡ false = sym now.1 ∙ ap (holds_name text new m) (eqb-true h j q) ∙ holds-new m ∙ t in let z : ◌≡◌ {A = ℕ} 0 1 = cc in omega arith
       go false q = n (findable m h (subst (λ (n : ℕ). h < n) c.slots (held_below text new m h e)) (holds-old m h (eqb-false h j q) now))
 
-  pub new-index : (m : List ℕ) → index_in text new m ≡ cond (eq_bytes (name_at text place) m) (some index) (index_in text old m)
+  pub new-index : (m : List ℕ) → index_in text new m ≡ cond (eq_bytes (name_at text place) m) (Some index) (index_in text old m)
   unfolding index_in
   new-index m = go (eq_bytes (name_at text place) m) (search_in text old m) (search_in text new m) refl refl refl
     where
-      go : (t : Bool) (r q : Slot) → eq_bytes (name_at text place) m ≡ t → search_in text old m ≡ r → search_in text new m ≡ q → index_by q new ≡ cond t (some index) (index_by r old)
-      go true r q et er eq = ap (λ (x : Slot). index_by x new) (sym eq ∙ new-held m et) ∙ ap some index_is
+      go : (t : Bool) (r q : Slot) → eq_bytes (name_at text place) m ≡ t → search_in text old m ≡ r → search_in text new m ≡ q → index_by q new ≡ cond t (Some index) (index_by r old)
+      go true r q et er eq = ap (λ (x : Slot). index_by x new) (sym eq ∙ new-held m et) ∙ ap Some index_is
       go false (Held h) q et er eq =
           let was = held-holds text old m h er in
-          ap (λ (x : Slot). index_by x new) (sym eq ∙ still-held text old new j c m h er) ∙ ap some (c.index h (taken-other text old new j c h was.0))
+          ap (λ (x : Slot). index_by x new) (sym eq ∙ still-held text old new j c m h er) ∙ ap Some (c.index h (taken-other text old new j c h was.0))
       go false (Free f) (Held h) et er eq = absurd (none-new m h et (λ e. let x = sym er ∙ e in let z : ◌≡◌ {A = ℕ} 0 1 = cc in omega arith) eq)
       go false (Free f) (Free g) et er eq = refl
       go false (Free f) Full et er eq = refl

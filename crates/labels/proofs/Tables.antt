@@ -1,8 +1,8 @@
 -- A table that gives the labels noted in it. Assumes nothing.
+use Rattle.std.specs.Prelude.{None, Option, Some}
 use mathlib.Core.Path.{◌≡◌, refl, sym, ap, ◌∙◌}
 use mathlib.Core.Bool.{Bool, true, false, cond}
 use mathlib.Core.List.{List, [], ◌∷◌}
-use mathlib.Core.Option.{Option, none, some}
 use Prim.Native.Nat.{ℕ, zero, suc, ◌+◌, ◌*◌, ◌/◌, ◌%◌, ◌^◌, ◌≤◌, ◌<◌}
 use native.Mathlib.Numerals.{add-one, add-two}
 use native.Mathlib.Omega.{arith}
@@ -85,8 +85,8 @@ pub record Tabled (text table : List ℕ) (index : List ℕ → Option ℕ) (cou
   pub gives : (name : List ℕ) → index_in text table name ≡ index name
   pub used : taken table (slots_of table) ≤ count
 
--- a table of zeros gives none
-pub tabled-none : (text : List ℕ) (n : ℕ) → Tabled text (replicate n 0) (λ _. none) 0
+-- a table of zeros gives None
+pub tabled-none : (text : List ℕ) (n : ℕ) → Tabled text (replicate n 0) (λ _. None) 0
 unfolding index_in
 tabled-none text n = record {
   findable = λ name k b h. absurd (h.0 (empty k));
@@ -102,17 +102,17 @@ tabled-none text n = record {
     empty : (k : ℕ) → key_at (replicate n 0) k ≡ 0
     empty k = zeros n (3 * k + 1)
 
-    go : (name : List ℕ) (r : Slot) → search_in text (replicate n 0) name ≡ r → index_by (search_in text (replicate n 0) name) (replicate n 0) ≡ none
+    go : (name : List ℕ) (r : Slot) → search_in text (replicate n 0) name ≡ r → index_by (search_in text (replicate n 0) name) (replicate n 0) ≡ None
     go name (Held h) e = absurd ((held-holds text (replicate n 0) name h e).0 (empty h))
     go name (Free f) e = ap (λ (r : Slot). index_by r (replicate n 0)) e
     go name Full e = ap (λ (r : Slot). index_by r (replicate n 0)) e
 
 module _ (text table : List ℕ) (index : List ℕ → Option ℕ) (count : ℕ) (t : Tabled text table index count) (name : List ℕ) where
-  pub tabled-held : (h : ℕ) → search_in text table name ≡ Held h → (i : ℕ) × (index name ≡ some i)
+  pub tabled-held : (h : ℕ) → search_in text table name ≡ Held h → (i : ℕ) × (index name ≡ Some i)
   unfolding index_in
   tabled-held h e = (index_at table h, sym (t.gives name) ∙ ap (λ (r : Slot). index_by r table) e)
 
-  pub tabled-free : (f : ℕ) → search_in text table name ≡ Free f → index name ≡ none
+  pub tabled-free : (f : ℕ) → search_in text table name ≡ Free f → index name ≡ None
   unfolding index_in
   tabled-free f e = sym (t.gives name) ∙ ap (λ (r : Slot). index_by r table) e
 
@@ -122,11 +122,11 @@ module _ (text table : List ℕ) (index : List ℕ → Option ℕ) (count : ℕ)
 
 pub tabled-new : (text table : List ℕ) (index : List ℕ → Option ℕ) (count at i j : ℕ) → Tabled text table index count → is_letter (head_of (drop at text)) ≡ true
     → search_in text table (name_at text at) ≡ Free j
-    → Tabled text (sets table (3 * j) (at ∷ (key_of (name_at text at) ∷ (i ∷ [])))) (λ m. cond (eq_bytes (name_at text at) m) (some i) (index m)) (count + 1)
+    → Tabled text (sets table (3 * j) (at ∷ (key_of (name_at text at) ∷ (i ∷ [])))) (λ m. cond (eq_bytes (name_at text at) m) (Some i) (index m)) (count + 1)
 unfolding new
 tabled-new text table index count at i j t l e = record {
   findable = new-findable text table fresh j at i c below t.findable key place number named e;
-  gives = λ m. new-index text table fresh j at i c below t.findable key place number named e m ∙ ap (cond (eq_bytes (name_at text at) m) (some i)) (t.gives m);
+  gives = λ m. new-index text table fresh j at i c below t.findable key place number named e m ∙ ap (cond (eq_bytes (name_at text at) m) (Some i)) (t.gives m);
   used = room;
 }
   where

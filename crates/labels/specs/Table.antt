@@ -1,8 +1,7 @@
 -- Inner: the table of labels, as the functions have it that note and find them. A label has three numbers, a slot: the place of its
 -- name in the text, the name's key, the number of instructions before it. A slot with the key 0 is free. A name is sought from its
 -- home on, upwards and round, up to the first free slot.
-use Rattle.std.specs.Prelude.{ℕ, zero, suc, ◌+◌, ◌*◌, ◌/◌, ◌%◌, ◌^◌, Bool, cond, ◌&&◌, List, [], ◌∷◌, eqb, ltb, length, get_or}
-use Rattle.std.proofs.Math.Option.{Option, none, some}
+use Rattle.std.specs.Prelude.{None, Option, Some, ℕ, zero, suc, ◌+◌, ◌*◌, ◌/◌, ◌%◌, ◌^◌, Bool, cond, ◌&&◌, List, [], ◌∷◌, eqb, ltb, length, get_or}
 use Rattle.std.proofs.lemmas.List.Edits.{sets}
 use Rattle.labels.specs.Bytes.{eq_bytes, key_of}
 use Rattle.labels.specs.Reading.{name_at}
@@ -54,16 +53,16 @@ search_in text table name = search_from text table name (slots_of table) (home_o
 
 -- ---- finding: the number of instructions before a label, and the place after its name
 abbrev pub index_by : Slot → List ℕ → Option ℕ
-index_by (Held k) table = some (index_at table k)
-index_by (Free k) table = none
-index_by Full table = none
+index_by (Held k) table = Some (index_at table k)
+index_by (Free k) table = None
+index_by Full table = None
 
 unfoldable pub index_in : List ℕ → List ℕ → List ℕ → Option ℕ
 index_in text table name = index_by (search_in text table name) table
 
 abbrev pub found_by : Option ℕ → ℕ → Found
-found_by (some i) after = At i after
-found_by none after = Nothing
+found_by (Some i) after = At i after
+found_by None after = Nothing
 
 -- ---- noting the name at a place, unless it is noted
 abbrev pub noted_by : Slot → Noted

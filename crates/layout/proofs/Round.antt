@@ -12,8 +12,9 @@ use lib.Seq.{drop-drop, drop-append-add}
 use borrow.Author.Tests.{eqb-true, leb-true, le-leb}
 use Rattle.memory.specs.Bytes.{bit, bytes, number_of_bytes, number_at}
 use Rattle.state.specs.Held.{Held, held_of, kept, waits}
-use Rattle.state.specs.Registers.{Registers, holds, noted}
-use Rattle.state.specs.Formed.{limbs_fit, register_fits, zero_fits, all_below, well_formed, registers_of}
+use Rattle.state.specs.declared.registers.Registers.{Registers}
+use Rattle.state.specs.Registers.{holds, noted}
+use Rattle.state.specs.Formed.{limbs_fit, register_fits, zero_fits, all_below, well_formed}
 use Rattle.state.specs.declared.State.{State}
 use Rattle.state.proofs.Normal.{kept-held}
 use Rattle.layout.specs.Layout.{HEADER_BYTES, RECORD_BYTES, STATE_BYTES, header_bytes, kind_of, first_of, second_of, record_bytes, records, state_bytes, record_at, kind_in, bound_in, zeros_in, first_in, second_in, held_in, state_in, numbers_fit, record_laid, well_laid, admissible}
@@ -38,7 +39,7 @@ module _ (b : List ℕ) (small : Small b) (laid : well_laid b ≡ true) where
       let one = both size mark two.0 in
       (eqb-true (length b) STATE_BYTES one.0, leb-true (number_at 1 b 8) 1 one.1, eqb-true (number_at 7 b 9) 0 two.1, three.1)
 
-  holds_read : (i : ℕ) → i < 16 → holds (registers_of (state_in b)) i ≡ held_in b i
+  holds_read : (i : ℕ) → i < 16 → holds (state_in b).registers i ≡ held_in b i
   unfolding state_in
   holds_read i h =
       let m : i % 16 ≡ i = omega arith in
@@ -46,7 +47,7 @@ module _ (b : List ℕ) (small : Small b) (laid : well_laid b ≡ true) where
       rw (m, table_at 16 0 i (λ k. kept (held_in b k)) 0 h, table_at 16 0 i (λ k. waits (held_in b k)) false h, z)
       (held-packed (kind_in b i) (first_in b i) (second_in b i))
 
-  noted_read : (i : ℕ) → i < 16 → noted (registers_of (state_in b)) i ≡ bound_in b i
+  noted_read : (i : ℕ) → i < 16 → noted (state_in b).registers i ≡ bound_in b i
   unfolding state_in
   noted_read i h =
       let m : i % 16 ≡ i = omega arith in
@@ -68,7 +69,7 @@ module _ (b : List ℕ) (small : Small b) (laid : well_laid b ≡ true) where
         read_next 1 b (record_at i) (record_at i + 1) small (omega arith) (omega arith) fit.0,
       )
 
-  records-back : (n i : ℕ) → i + n ≡ 16 → records n i (registers_of (state_in b)) ≡ drop (record_at i) b
+  records-back : (n i : ℕ) → i + n ≡ 16 → records n i (state_in b).registers ≡ drop (record_at i) b
   unfolding records
   records-back zero i e = sym (drop_of_length-le b {i = record_at i} (omega (arith, tests.0)))
   records-back (suc n) i e =
@@ -121,10 +122,10 @@ records-from n i (suc k) R =
     rw (z, d, e) (drop-append-add r (records (k + n) (i + 1) R) (RECORD_BYTES * k) ∙ records-from n (i + 1) k R)
 
 -- written, then read
-module _ (s : State) (shape : Shaped s) (limbs : (i : ℕ) → i < 16 → limbs_fit (holds (registers_of s) i) ≡ true) where
+module _ (s : State) (shape : Shaped s) (limbs : (i : ℕ) → i < 16 → limbs_fit (holds s.registers i) ≡ true) where
   -- a number of register i's record, at its place among the state's bytes
   number-from : (n off i : ℕ) {v : ℕ} → i < 16
-      → ((rest : List ℕ) → number_at n (record_bytes (holds (registers_of s) i) (noted (registers_of s) i) ++ rest) off ≡ v)
+      → ((rest : List ℕ) → number_at n (record_bytes (holds s.registers i) (noted s.registers i) ++ rest) off ≡ v)
       → number_at n (state_bytes s) (record_at i + off) ≡ v
   unfolding state_bytes records
   number-from n off i below read =
@@ -132,44 +133,44 @@ module _ (s : State) (shape : Shaped s) (limbs : (i : ℕ) → i < 16 → limbs_
       let a : record_at i ≡ length head + RECORD_BYTES * i = omega (arith, length-header s.pc s.halted) in
       let all : 16 ≡ i + suc (16 - (i + 1)) = omega arith in
       let o : 0 + i ≡ i = omega arith in
-      let from : drop (record_at i) (state_bytes s) ≡ records (suc (16 - (i + 1))) i (registers_of s) =
-      rw a (drop-append-add head (records 16 0 (registers_of s)) (RECORD_BYTES * i))
-      ∙ ap (λ (k : ℕ). drop (RECORD_BYTES * i) (records k 0 (registers_of s))) all
-      ∙ records-from (suc (16 - (i + 1))) 0 i (registers_of s)
-      ∙ ap (λ (k : ℕ). records (suc (16 - (i + 1))) k (registers_of s)) o
+      let from : drop (record_at i) (state_bytes s) ≡ records (suc (16 - (i + 1))) i s.registers =
+      rw a (drop-append-add head (records 16 0 s.registers) (RECORD_BYTES * i))
+      ∙ ap (λ (k : ℕ). drop (RECORD_BYTES * i) (records k 0 s.registers)) all
+      ∙ records-from (suc (16 - (i + 1))) 0 i s.registers
+      ∙ ap (λ (k : ℕ). records (suc (16 - (i + 1))) k s.registers) o
       in
       rw (← drop-drop off (record_at i) (state_bytes s), from) (read _)
 
   module _ (i : ℕ) (below : i < 16) where
     numbers-read :
-        (kind_in (state_bytes s) i ≡ kind_of (holds (registers_of s) i))
-        × (first_in (state_bytes s) i ≡ first_of (holds (registers_of s) i))
-        × (second_in (state_bytes s) i ≡ second_of (holds (registers_of s) i))
+        (kind_in (state_bytes s) i ≡ kind_of (holds s.registers i))
+        × (first_in (state_bytes s) i ≡ first_of (holds s.registers i))
+        × (second_in (state_bytes s) i ≡ second_of (holds s.registers i))
     numbers-read =
         let z : record_at i ≡ record_at i + 0 = omega arith in
-        let fits = numbers-small (get_or s.accumulated (i % 16) false) (get_or s.regs (i % 16) 0) (shape.reg-fits (i % 16)) in (
-          rw z (number-from 1 0 i below (kind-written (holds (registers_of s) i) (noted (registers_of s) i))),
-          number-from 8 8 i below (λ rest. first-written (holds (registers_of s) i) (noted (registers_of s) i) rest fits.0),
-          number-from 8 16 i below (λ rest. second-written (holds (registers_of s) i) (noted (registers_of s) i) rest fits.1),
+        let fits = numbers-small (get_or s.registers.accumulated (i % 16) false) (get_or s.registers.values (i % 16) 0) (shape.value-fits (i % 16)) in (
+          rw z (number-from 1 0 i below (kind-written (holds s.registers i) (noted s.registers i))),
+          number-from 8 8 i below (λ rest. first-written (holds s.registers i) (noted s.registers i) rest fits.0),
+          number-from 8 16 i below (λ rest. second-written (holds s.registers i) (noted s.registers i) rest fits.1),
         )
 
-    held-read : held_in (state_bytes s) i ≡ held_of (get_or s.accumulated i false) (get_or s.regs i 0)
+    held-read : held_in (state_bytes s) i ≡ held_of (get_or s.registers.accumulated i false) (get_or s.registers.values i 0)
     held-read =
         let m : i % 16 ≡ i = omega arith in
         let e = numbers-read in
-        rw (e.0, e.1, e.2) (held-by (holds (registers_of s) i) (limbs i below) ∙ rw m)
+        rw (e.0, e.1, e.2) (held-by (holds s.registers i) (limbs i below) ∙ rw m)
 
-    bound-read : bound_in (state_bytes s) i ≡ get_or s.bounds i 0
+    bound-read : bound_in (state_bytes s) i ≡ get_or s.registers.bounds i 0
     bound-read =
         let m : i % 16 ≡ i = omega arith in
-        number-from 1 1 i below (λ rest. bound-written (holds (registers_of s) i) (noted (registers_of s) i) rest (shape.bound-fits (i % 16))) ∙ rw m
+        number-from 1 1 i below (λ rest. bound-written (holds s.registers i) (noted s.registers i) rest (shape.bound-fits (i % 16))) ∙ rw m
 
     laid-read : record_laid (state_bytes s) i ≡ true
     unfolding record_laid
     laid-read =
         let e = numbers-read in
-        rw (number-from 6 2 i below (zeros-written (holds (registers_of s) i) (noted (registers_of s) i)), e.0, e.1, e.2)
-        (numbers-fit (holds (registers_of s) i) (limbs i below))
+        rw (number-from 6 2 i below (zeros-written (holds s.registers i) (noted s.registers i)), e.0, e.1, e.2)
+        (numbers-fit (holds s.registers i) (limbs i below))
 
   pc-read : number_at 8 (state_bytes s) 0 ≡ s.pc
   unfolding state_bytes header_bytes bytes
@@ -190,21 +191,21 @@ module _ (s : State) (shape : Shaped s) (limbs : (i : ℕ) → i < 16 → limbs_
         pc-read,
         mark-read,
         mark-is s.halted,
-        table_of 16 (λ i. kept (held_in (state_bytes s) i)) s.regs 0 shape.regs_long (λ i h. ap kept (held-read i h) ∙ kept-held _ _),
-        table_of 16 (λ i. waits (held_in (state_bytes s) i)) s.accumulated false shape.accumulated-long (λ i h. ap waits (held-read i h) ∙ waits-held _ _),
-        table_of 16 (bound_in (state_bytes s)) s.bounds 0 shape.bounds-long bound-read,
+        table_of 16 (λ i. kept (held_in (state_bytes s) i)) s.registers.values 0 shape.values_long (λ i h. ap kept (held-read i h) ∙ kept-held _ _),
+        table_of 16 (λ i. waits (held_in (state_bytes s) i)) s.registers.accumulated false shape.accumulated-long (λ i h. ap waits (held-read i h) ∙ waits-held _ _),
+        table_of 16 (bound_in (state_bytes s)) s.registers.bounds 0 shape.bounds-long bound-read,
       )
 
   pub written-laid : well_laid (state_bytes s) ≡ true
   unfolding well_laid
   written-laid = rw (length-state s, mark-read, le-leb _ _ (mark-small s.halted), zeros-read) (all_of (record_laid (state_bytes s)) 16 laid-read)
 
-module _ (s : State) (shape : Shaped s) (formed : well_formed (registers_of s) ≡ true) where
-  pub limbs-fit : (i : ℕ) → i < 16 → limbs_fit (holds (registers_of s) i) ≡ true
+module _ (s : State) (shape : Shaped s) (formed : well_formed s.registers ≡ true) where
+  pub limbs-fit : (i : ℕ) → i < 16 → limbs_fit (holds s.registers i) ≡ true
   unfolding well_formed register_fits
   limbs-fit i h =
-      let all = (both (zero_fits (registers_of s)) (all_below (register_fits (registers_of s)) 16) formed).1 in
-      (both (leb (noted (registers_of s) i) 64) (limbs_fit (holds (registers_of s) i)) (all-at (register_fits (registers_of s)) 16 i all h)).1
+      let all = (both (zero_fits s.registers) (all_below (register_fits s.registers) 16) formed).1 in
+      (both (leb (noted s.registers i) 64) (limbs_fit (holds s.registers i)) (all-at (register_fits s.registers) 16 i all h)).1
 
   pub written-admissible : admissible (state_bytes s) ≡ true
   unfolding admissible

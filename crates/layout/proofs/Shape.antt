@@ -31,10 +31,10 @@ unfolding state_in
 shaped_in b small =
     record {
       pc-fits = number-below 8 b 0 small;
-      regs_long = length-table 16 0 (λ i. kept (held_in b i));
+      values_long = length-table 16 0 (λ i. kept (held_in b i));
       accumulated-long = length-table 16 0 _;
       bounds-long = length-table 16 0 (bound_in b);
-      reg-fits = λ k. table-each (λ n. n < 2 ^ 64) 16 0 (λ i. kept (held_in b i)) k (lit< tt)
+      value-fits = λ k. table-each (λ n. n < 2 ^ 64) 16 0 (λ i. kept (held_in b i)) k (lit< tt)
           (λ i. kept-fits (kind_in b i) (first_in b i) (second_in b i) (number-below 8 b (record_at i + 8) small));
       bound-fits = λ k. table-each (λ n. n < 2 ^ 8) 16 0 (bound_in b) k (lit< tt) (λ i. number-below 1 b (record_at i + 1) small);
     }

@@ -8,8 +8,7 @@ use lib.ListN.{length, get_or, length-append}
 use lib.Seq.{sets}
 use Rattle.memory.specs.Bytes.{bit, bytes}
 use Rattle.state.specs.Held.{Held, held_of}
-use Rattle.state.specs.Registers.{Registers}
-use Rattle.state.specs.Formed.{registers_of}
+use Rattle.state.specs.declared.registers.Registers.{Registers}
 use Rattle.state.specs.declared.State.{State}
 use Rattle.layout.specs.Layout.{HEADER_BYTES, RECORD_BYTES, STATE_BYTES, header_bytes, record_bytes, records, state_bytes, record_at, written}
 use Rattle.layout.specs.Answer.{ANSWER_BYTES, answer_bytes}
@@ -48,10 +47,10 @@ head-is head kind bound is k b =
     rw (low, rest, none)
 
 pub state-stored : (s : State) (old : List ℕ) → length old ≡ STATE_BYTES
-    → sets (sets old 0 (bytes 8 s.pc ++ bytes 8 (bit s.halted))) HEADER_BYTES (records 16 0 (registers_of s)) ≡ written STATE_BYTES (state_bytes s) old
+    → sets (sets old 0 (bytes 8 s.pc ++ bytes 8 (bit s.halted))) HEADER_BYTES (records 16 0 s.registers) ≡ written STATE_BYTES (state_bytes s) old
 unfolding state_bytes
 state-stored s old h =
-    rw header_is (sets-next old 0 HEADER_BYTES (header_bytes s.pc s.halted) (records 16 0 (registers_of s)) (rw length-header (omega arith)))
+    rw header_is (sets-next old 0 HEADER_BYTES (header_bytes s.pc s.halted) (records 16 0 s.registers) (rw length-header (omega arith)))
     ∙ written_all STATE_BYTES (state_bytes s) old h (length-state s)
 
 length-answer : (code steps particular : ℕ) → length (answer_bytes code steps particular) ≡ ANSWER_BYTES

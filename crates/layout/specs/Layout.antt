@@ -2,8 +2,9 @@
 use Rattle.std.specs.Prelude.{ℕ, zero, suc, ◌+◌, ◌*◌, ◌%◌, ◌^◌, Bool, cond, ◌&&◌, List, [], ◌∷◌, ◌++◌, length, leb, eqb}
 use Rattle.memory.specs.Bytes.{bit, bytes, number_at}
 use Rattle.state.specs.Held.{Held, Whole, Limbs, kept, waits}
-use Rattle.state.specs.Registers.{Registers, holds, noted}
-use Rattle.state.specs.Formed.{limbs_fit, all_below, well_formed, registers_of}
+use Rattle.state.specs.declared.registers.Registers.{Registers}
+use Rattle.state.specs.Registers.{registers, holds, noted}
+use Rattle.state.specs.Formed.{limbs_fit, all_below, well_formed}
 use Rattle.state.specs.declared.State.{State}
 
 -- "The state is 400 bytes": a header, then sixteen records
@@ -44,7 +45,7 @@ records zero i R = []
 records (suc n) i R = record_bytes (holds R i) (noted R i) ++ records n (i + 1) R
 
 unfoldable pub state_bytes : State → List ℕ
-state_bytes s = header_bytes s.pc s.halted ++ records 16 0 (registers_of s)
+state_bytes s = header_bytes s.pc s.halted ++ records 16 0 s.registers
 
 -- the same places, read: where register i's record starts, and what stands in it
 abbrev pub record_at : ℕ → ℕ
@@ -82,9 +83,7 @@ state_in b =
     record {
       pc = number_at 8 b 0;
       halted = eqb (number_at 1 b 8) 1;
-      regs = table 16 0 (λ i. kept (held_in b i));
-      accumulated = table 16 0 (λ i. waits (held_in b i));
-      bounds = table 16 0 (bound_in b);
+      registers = registers (table 16 0 (λ i. kept (held_in b i))) (table 16 0 (λ i. waits (held_in b i))) (table 16 0 (bound_in b));
     }
 
 -- a whole register's second number is 0, limbs are below 2^30, and there is no third kind
@@ -100,7 +99,7 @@ well_laid b = eqb (length b) STATE_BYTES && leb (number_at 1 b 8) 1 && eqb (numb
 
 -- and of one that the rules allow: its bounds are at most 64, and R0 is whole, zero, bound 0
 unfoldable pub admissible : List ℕ → Bool
-admissible b = well_laid b && well_formed (registers_of (state_in b))
+admissible b = well_laid b && well_formed (state_in b).registers
 
 -- what is written whole: a lent slice of another size isn't written
 unfoldable pub written : ℕ → List ℕ → List ℕ → List ℕ

@@ -8,18 +8,14 @@ use crate::reading::read;
 pub fn well_laid(bytes: &[u8]) -> bool
     ensures { result ≡ well_laid bytes.now }
 {
-    let r = read(bytes);
-    r.laid
+    read(bytes).laid
 }
 
 // Whether they are those of a state that the rules allow.
+#[tactic(auto, unfolding(crate::specs::Layout::admissible))]
 pub fn is_admissible(bytes: &[u8]) -> bool
     ensures { result ≡ admissible bytes.now }
 {
     let r = read(bytes);
-    if !r.laid {
-        return false;
-    }
-    let s = r.state;
-    state::formed::well_formed(&s.regs, &s.accumulated, &s.bounds)
+    r.laid && r.state.registers.well_formed()
 }

@@ -8,6 +8,7 @@ use crate::records::{Record, numbers_at};
 use crate::{HEADER_BYTES, LIMB_LIMIT, RECORD_BYTES, STATE_BYTES};
 use memory::bytes::number_at;
 use state::State;
+use state::registers::Registers;
 
 // The parts of a register's record.
 #[derive(Clone, Copy)]
@@ -99,22 +100,22 @@ fn both(a: bool, b: bool) -> bool
 pub fn read(bytes: &[u8]) -> Reading
     ensures { result ≡ read_in bytes.now }
 {
-    let mut regs = [0u64; 16];
-    let mut accumulated = [false; 16];
-    let mut bounds = [0u8; 16];
+    let mut registers = Registers {
+        values: [0; 16],
+        accumulated: [false; 16],
+        bounds: [0; 16],
+    };
     let mut laid = header_laid(bytes);
-    let mut i: usize = 0;
-    while i < 16 {
+    for i in 0..16 {
         let p = parts_at(bytes, HEADER_BYTES + RECORD_BYTES * i);
-        regs[i] = kept_by(p.kind, p.first, p.second);
-        accumulated[i] = p.kind == 1;
-        bounds[i] = p.bound;
+        registers.values[i] = kept_by(p.kind, p.first, p.second);
+        registers.accumulated[i] = p.kind == 1;
+        registers.bounds[i] = p.bound;
         laid = both(parts_laid(p), laid);
-        i += 1;
     }
     let pc = number_at(bytes, 0, 8);
     let halted = number_at(bytes, 8, 1) == 1;
-    let state = state::together(pc, halted, regs, accumulated, bounds);
+    let state = state::together(pc, halted, registers);
     Reading { state, laid }
 }
 

@@ -3,7 +3,6 @@ ghost use Rattle.std.specs.Prelude.{◌≡◌, ◌++◌, ◌+◌, ◌≤◌, len
 ghost use Rattle.std.proofs.lemmas.List.Edits.{sets};
 ghost use Rattle.memory.specs.Bytes.{bytes};
 ghost use Rattle.state.specs.Held.{held_of};
-ghost use Rattle.state.specs.Registers.{registers};
 ghost use Rattle.layout.specs.Layout.{HEADER_BYTES, STATE_BYTES, record_bytes, records, state_bytes, written};
 ghost use Rattle.layout.specs.Numbers.{numbers_of};
 
@@ -11,6 +10,7 @@ use crate::records::Record;
 use crate::{HEADER_BYTES, LIMB_LIMIT, RECORD_BYTES, STATE_BYTES};
 use memory::bytes::{bit, put_number};
 use state::State;
+use state::registers::Registers;
 
 fn record_of(waits: bool, v: u64, bound: u8) -> Record
     ensures { numbers_of result ≡ record_bytes (held_of waits v) bound }
@@ -47,18 +47,16 @@ pub(crate) fn put_three(into: &mut [u8], at: usize, a: u64, b: u64, c: u64)
     put_number(into, at + 16, 8, c);
 }
 
-fn put_records<'a>(
-    bytes: &mut [u8],
-    regs: &'a [u64; 16],
-    accumulated: &'a [bool; 16],
-    bounds: &'a [u8; 16],
-)
+fn put_records(bytes: &mut [u8], registers: &Registers)
     requires { length bytes.old ≡ STATE_BYTES }
-    ensures { bytes.new ≡ sets bytes.old HEADER_BYTES (records 16 0 (registers regs.now accumulated.now bounds.now)) }
+    ensures { bytes.new ≡ sets bytes.old HEADER_BYTES (records 16 0 registers.now) }
 {
-    let mut i: usize = 0;
-    while i < 16 {
-        let r = record_of(accumulated[i], regs[i], bounds[i]);
+    for i in 0..16 {
+        let r = record_of(
+            registers.accumulated[i],
+            registers.values[i],
+            registers.bounds[i],
+        );
         put_three(
             bytes,
             HEADER_BYTES + RECORD_BYTES * i,
@@ -66,7 +64,6 @@ fn put_records<'a>(
             r.first,
             r.second,
         );
-        i += 1;
     }
 }
 
@@ -78,8 +75,5 @@ pub fn write_state(bytes: &mut [u8], s: State)
         return;
     }
     put_header(bytes, s.pc, bit(s.halted) as u64);
-    let regs = s.regs;
-    let accumulated = s.accumulated;
-    let bounds = s.bounds;
-    put_records(bytes, &regs, &accumulated, &bounds);
+    put_records(bytes, &s.registers);
 }

@@ -1,5 +1,6 @@
 -- Inner: what the private functions of the exported step promise.
 use Rattle.std.specs.Prelude.{ℕ, false, cond, ◌&&◌, leb, replicate}
+use Rattle.state.specs.Registers.{registers}
 use Rattle.state.specs.declared.State.{State}
 use Rattle.execute.specs.declared.Mode.TheVariants.{Deferred}
 use Rattle.step.specs.declared.OneStep.{OneStep}
@@ -11,7 +12,7 @@ use Rattle.lent.specs.declared.exported.Done.{Done}
 
 -- a state that every step refuses
 abbrev pub shut : State
-shut = record { pc = 0; halted = false; regs = replicate 16 0; accumulated = replicate 16 false; bounds = replicate 16 1 }
+shut = record { pc = 0; halted = false; registers = registers (replicate 16 0) (replicate 16 false) (replicate 16 1) }
 
 -- what is stepped
 unfoldable pub readied : Lent → ℕ → Ready

@@ -2,6 +2,7 @@
 use Rattle.std.specs.Prelude.{ℕ, Bool, false, cond, ◌&&◌, List, leb, eqb, get_or}
 use Rattle.refusal.specs.Stops.{refusal_of, code_of, particular_at}
 use Rattle.state.specs.Formed.{all_below}
+use Rattle.state.specs.Registers.{registers}
 use Rattle.state.specs.declared.State.{State}
 use Rattle.execute.specs.World.{world_of}
 use Rattle.execute.specs.Rules.{document_rules}
@@ -29,9 +30,7 @@ state_of_lent r =
     record {
       pc = r.pc;
       halted = eqb r.halted 1;
-      regs = r.values;
-      accumulated = table 16 0 (λ i. eqb (get_or r.kinds i 0) 1);
-      bounds = r.bounds;
+      registers = registers r.values (table 16 0 (λ i. eqb (get_or r.kinds i 0) 1)) r.bounds;
     }
 
 unfoldable pub lent_of : State → Lent
@@ -39,9 +38,9 @@ lent_of s =
     record {
       pc = s.pc;
       halted = bit s.halted;
-      kinds = table 16 0 (λ i. bit (get_or s.accumulated i false));
-      bounds = s.bounds;
-      values = s.regs;
+      kinds = table 16 0 (λ i. bit (get_or s.registers.accumulated i false));
+      bounds = s.registers.bounds;
+      values = s.registers.values;
     }
 
 -- a refused step leaves the record as it was

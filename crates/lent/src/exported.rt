@@ -11,6 +11,7 @@ use host::mode_of;
 use memory::bytes::bit;
 use run::legs::stop_of;
 use state::State;
+use state::registers::Registers;
 use step::OneStep;
 
 // Mark and kinds are 0 or 1. The values are kept as the state keeps them: of an accumulated register low + 2^30 * high.
@@ -48,12 +49,10 @@ struct Done {
 fn kinds_fit(kinds: &[u8; 16]) -> bool
     ensures { result ≡ all_below (mark_fits kinds.now) 16 }
 {
-    let mut i: usize = 0;
-    while i < 16 {
-        if 1 < kinds[i] {
+    for kind in *kinds {
+        if 1 < kind {
             return false;
         }
-        i += 1;
     }
     true
 }
@@ -76,34 +75,33 @@ fn state_of_lent(r: Lent) -> State
 {
     let kinds = r.kinds;
     let mut accumulated = [false; 16];
-    let mut i: usize = 0;
-    while i < 16 {
+    for i in 0..16 {
         accumulated[i] = kinds[i] == 1;
-        i += 1;
     }
-    let regs = r.values;
+    let values = r.values;
     let bounds = r.bounds;
-    state::together(r.pc, r.halted == 1, regs, accumulated, bounds)
+    let registers = Registers {
+        values,
+        accumulated,
+        bounds,
+    };
+    state::together(r.pc, r.halted == 1, registers)
 }
 
 fn lent_of(s: State) -> Lent
     ensures { result ≡ lent_of s }
 {
-    let accumulated = s.accumulated;
-    let mut kinds = [0u8; 16];
-    let mut i: usize = 0;
-    while i < 16 {
-        kinds[i] = bit(accumulated[i]);
-        i += 1;
+    let registers = s.registers;
+    let mut kinds = [0; 16];
+    for i in 0..16 {
+        kinds[i] = bit(registers.accumulated[i]);
     }
-    let values = s.regs;
-    let bounds = s.bounds;
     Lent {
         pc: s.pc,
         halted: bit(s.halted),
         kinds,
-        bounds,
-        values,
+        bounds: registers.bounds,
+        values: registers.values,
     }
 }
 
@@ -112,11 +110,16 @@ fn prepare(r: Lent, mode: u64) -> Ready
     ensures { result ≡ readied r mode }
 {
     if !lent_taken(r, mode) {
+        let registers = Registers {
+            values: [0; 16],
+            accumulated: [false; 16],
+            bounds: [1; 16],
+        };
         return Ready {
             choices: Choices {
                 mode: Mode::Deferred,
             },
-            state: state::together(0, false, [0; 16], [false; 16], [1; 16]),
+            state: state::together(0, false, registers),
         };
     }
     let mode = mode_of(mode);

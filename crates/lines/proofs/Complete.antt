@@ -1,13 +1,11 @@
 -- Whatever spells a line is read as what it says. Assumes nothing.
-use Rattle.std.proofs.Common.{◌≡◌, ℕ, zero, suc, ◌+◌, ◌-◌, ◌<◌, ◌≤◌, Bool, true, false, cond, ◌&&◌, ◌||◌, eqb, ltb, leb, List, [], ◌∷◌, ◌++◌, ℤ, pos, refl, ap, ◌∙◌, subst, append_assoc, arith, ltb-false, ltb-true, ne_eqb, le-leb, leb-false}
-use mathlib.Core.Option.{Option, none, some}
+use Rattle.std.proofs.Common.{None, Option, Some, ◌≡◌, ℕ, zero, suc, ◌+◌, ◌-◌, ◌<◌, ◌≤◌, Bool, true, false, cond, ◌&&◌, ◌||◌, eqb, ltb, leb, List, [], ◌∷◌, ◌++◌, ℤ, pos, refl, ap, ◌∙◌, subst, append_assoc, arith, ltb-false, ltb-true, ne_eqb, le-leb, leb-false}
 use lib.ListN.{replicate-append-replicate}
 use borrow.Author.Tests.{lt-leb}
 use Rattle.opcode.specs.Opcodes.{all, opcode_in, form_of}
 use Rattle.opcode.specs.declared.Opcode.{Opcode}
 use Rattle.opcode.specs.declared.Opcode.TheVariants as O
 use Rattle.opcode.specs.declared.Form.{Form}
-use Rattle.opcode.specs.declared.Found.{Found}
 use Rattle.opcode.proofs.Arms.{everywhere}
 use Rattle.opcode.proofs.Variants.{place, all-at}
 use Rattle.names.specs.Names.{register_text, name_of, name_key}
@@ -100,9 +98,9 @@ register-law r t h d = go (ltb r 10) refl
     go true e = register-one r t (ltb-true r 10 e) d
     go false e = register-two r t (ltb-false r 10 e) (ltb-true r 16 h)
 
-some-given : (o : Option ℤ) (t : List ℕ) (go : ℤ → List ℕ → Option (List ℤ)) (rest : Option (List ℤ)) → ((v : ℤ) → go v t ≡ pushed (some v) rest) → with (given o t) go ≡ pushed o rest
-some-given none t go rest h = refl
-some-given (some v) t go rest h = h v
+some-given : (o : Option ℤ) (t : List ℕ) (go : ℤ → List ℕ → Option (List ℤ)) (rest : Option (List ℤ)) → ((v : ℤ) → go v t ≡ pushed (Some v) rest) → with (given o t) go ≡ pushed o rest
+some-given None t go rest h = refl
+some-given (Some v) t go rest h = h v
 
 operand-law : {k : Kind} (o : Operand k) (look : List ℕ → Option ℤ) (t : List ℕ) → Ends t → operand_read k look (operand_text o ++ t) ≡ given (operand_value o look) (skip t)
 unfolding operand_read
@@ -139,8 +137,8 @@ module _ (look : List ℕ → Option ℤ) where
       let reads : operand_read k look (skip (operands_text (last g o h) ++ spaces n)) ≡ given (operand_value o look) [] =
       ap (λ (u : List ℕ). operand_read k look (skip u)) whole ∙ ap (operand_read k look) (skip-spaces g T ∙ skip-operand o (spaces (h + n)))
       ∙ operand-law o look (spaces (h + n)) (ends_last (h + n)) ∙ ap (given (operand_value o look)) (skip_all (h + n)) in
-      ap (λ (x : Got). with x (λ v u. cond (nothing u) (some (v ∷ [])) none)) reads
-      ∙ some-given (operand_value o look) [] (λ v u. cond (nothing u) (some (v ∷ [])) none) (some []) (λ v. refl)
+      ap (λ (x : Got). with x (λ v u. cond (nothing u) (Some (v ∷ [])) None)) reads
+      ∙ some-given (operand_value o look) [] (λ v u. cond (nothing u) (Some (v ∷ [])) None) (Some []) (λ v. refl)
 
   more-law : {k j : Kind} {ks : List Kind} (g : ℕ) (o : Operand k) (h : ℕ) (os : Operands (j ∷ ks)) (n : ℕ) → operands_read (j ∷ ks) look (operands_text os ++ spaces n) ≡ operands_values os look
       → operands_read (k ∷ (j ∷ ks)) look (operands_text (more g o h os) ++ spaces n) ≡ operands_values (more g o h os) look
@@ -152,12 +150,12 @@ module _ (look : List ℕ → Option ℤ) where
       let reads : operand_read k look (skip (operands_text (more g o h os) ++ spaces n)) ≡ given (operand_value o look) (44 ∷ U) =
       ap (λ (u : List ℕ). operand_read k look (skip u)) whole ∙ ap (operand_read k look) (skip-spaces g (operand_text o ++ Y) ∙ skip-operand o Y)
       ∙ operand-law o look Y (ends-comma h U) ∙ ap (given (operand_value o look)) (skip-spaces h (44 ∷ U)) in
-      ap (λ (x : Got). with x (λ v u. cond (eqb (head_of u) 44) (pushed (some v) (operands_read (j ∷ ks) look (tail_of u))) none)) reads
-      ∙ some-given (operand_value o look) (44 ∷ U) (λ v u. cond (eqb (head_of u) 44) (pushed (some v) (operands_read (j ∷ ks) look (tail_of u))) none) (operands_values os look) (λ v. ap (pushed (some v)) ih)
+      ap (λ (x : Got). with x (λ v u. cond (eqb (head_of u) 44) (pushed (Some v) (operands_read (j ∷ ks) look (tail_of u))) None)) reads
+      ∙ some-given (operand_value o look) (44 ∷ U) (λ v u. cond (eqb (head_of u) 44) (pushed (Some v) (operands_read (j ∷ ks) look (tail_of u))) None) (operands_values os look) (λ v. ap (pushed (Some v)) ih)
 
   operands-law : {ks : List Kind} (os : Operands ks) (n : ℕ) → operands_read ks look (operands_text os ++ spaces n) ≡ operands_values os look
   unfolding operands_read operands_text operands_values
-  operands-law without n = ap (λ (u : List ℕ). cond (nothing u) (some []) none) (skip_all n)
+  operands-law without n = ap (λ (u : List ℕ). cond (nothing u) (Some []) None) (skip_all n)
   operands-law (last g o h) n = last-law g o h n
   operands-law (more g o h os) n = more-law g o h os n (operands-law os n)
 
@@ -241,7 +239,7 @@ module _ (look : Form → List ℕ → Option ℤ) where
       let colon : eqb (head_of (skip (past is_part (name_of op ++ t)))) 58 ≡ false = ap (λ (u : List ℕ). eqb (head_of (skip u)) 58) p ∙ no-colon os h in
       starts g (name_of op) t n
       ∙ ap (λ (x : Bool). cond x (cond (nothing (skip (tail_of (skip (past is_part (name_of op ++ t)))))) (named (run_of is_part (name_of op ++ t))) wrong) (instruction_read (opcode_in name_key (key_of (run_of is_part (name_of op ++ t)))) look (past is_part (name_of op ++ t)))) colon
-      ∙ ap (λ (f : Found). instruction_read f look (past is_part (name_of op ++ t))) (ap (λ (u : List ℕ). opcode_in name_key (key_of u)) (runs (name_of op) t n a) ∙ found op)
+      ∙ ap (λ (f : Option Opcode). instruction_read f look (past is_part (name_of op ++ t))) (ap (λ (u : List ℕ). opcode_in name_key (key_of u)) (runs (name_of op) t n a) ∙ found op)
       ∙ ap (λ (vs : Option (List ℤ)). saying_of (word_for op vs)) (ap (operands_read (kinds_of (form_of op)) (look (form_of op))) p ∙ arguments-law (look (form_of op)) os h)
 
   pub line-complete : (l : Line) → line_read look (line_text l) ≡ line_saying l look

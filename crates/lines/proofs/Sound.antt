@@ -1,13 +1,10 @@
 -- Whatever is read of a line is what a line with that text says. Assumes nothing.
-use Rattle.std.proofs.Common.{◌≡◌, ℕ, zero, suc, ◌+◌, ◌-◌, ◌≤◌, Bool, true, false, cond, ◌&&◌, eqb, ltb, leb, List, [], ◌∷◌, ◌++◌, length, ℤ, pos, sym, refl, ap, ◌∙◌, subst, append_assoc, arith, le-ltb, lt-ltb, eqb-true, leb-true}
-use mathlib.Core.Option.{Option, none, some}
+use Rattle.std.proofs.Common.{Option, None, Some, ◌≡◌, ℕ, zero, suc, ◌+◌, ◌-◌, ◌≤◌, Bool, true, false, cond, ◌&&◌, eqb, ltb, leb, List, [], ◌∷◌, ◌++◌, length, ℤ, pos, sym, refl, ap, ◌∙◌, subst, append_assoc, arith, le-ltb, lt-ltb, eqb-true, leb-true}
 use Rattle.opcode.specs.Opcodes.{all, opcode_in, form_of}
 use Rattle.opcode.specs.declared.Opcode.{Opcode}
 use Rattle.opcode.specs.declared.Opcode.TheVariants as O
 use Rattle.opcode.specs.declared.Form.{Form}
 use Rattle.opcode.specs.declared.Form.TheVariants.{R, I, Shift, S, B, J, Alone}
-use Rattle.opcode.specs.declared.Found.{Found}
-use Rattle.opcode.specs.declared.Found.TheVariants.{Op, Nothing}
 use Rattle.opcode.proofs.Arms.{everywhere}
 use Rattle.opcode.proofs.Variants.{place, all-at}
 use Rattle.opcode.proofs.Numberings.{number-found}
@@ -76,7 +73,7 @@ register-sound t v u = go (eqb (head_of t) 82) refl
     go true e h = by (is_teen (tail_of t)) (is_digit (head_of (tail_of t))) e refl refl h
     go false e h = bad-got h
 
-none-some : {A : Type 0} {vs : List ℤ} → none ≡ some vs → A
+none-some : {A : Type 0} {vs : List ℤ} → None ≡ Some vs → A
 none-some h = absurd (let z : ◌≡◌ {A = ℕ} 0 1 = cc in omega arith)
 
 is-nothing : (t : List ℕ) → nothing t ≡ true → t ≡ []
@@ -86,7 +83,7 @@ is-nothing (b ∷ t) h = absurd (let z : ◌≡◌ {A = ℕ} 0 1 = cc in omega a
 -- ---- operands
 module _ (look : List ℕ → Option ℤ) where
   OperandSound : Kind → List ℕ → ℤ → List ℕ → Type 0
-  OperandSound k t v u = (o : Operand k) × ((h : ℕ) × (t ≡ operand_text o ++ (spaces h ++ u)) × (operand_value o look ≡ some v))
+  OperandSound k t v u = (o : Operand k) × ((h : ℕ) × (t ≡ operand_text o ++ (spaces h ++ u)) × (operand_value o look ≡ Some v))
 
   operand_sound : (k : Kind) (t : List ℕ) (v : ℤ) (u : List ℕ) → operand_read k look t ≡ got v u → OperandSound k t v u
   unfolding OperandSound operand_read RegisterSound
@@ -96,25 +93,25 @@ module _ (look : List ℕ → Option ℤ) where
       let e = k.1.2 in
       let same : k.0 ≡ v = cc in
       let rest : skip k.1.0 ≡ u = cc in
-      (reg r.0 r.1, (length (run_of is_space k.1.0), r.2 ∙ ap (register_text r.0 ++◌) (skipped k.1.0 ∙ ap (spaces (length (run_of is_space k.1.0)) ++◌) rest), ap some (r.3 ∙ same)))
+      (reg r.0 r.1, (length (run_of is_space k.1.0), r.2 ∙ ap (register_text r.0 ++◌) (skipped k.1.0 ∙ ap (spaces (length (run_of is_space k.1.0)) ++◌) rest), ap Some (r.3 ∙ same)))
   operand_sound immediate t v u h = let k = sound look 16 t v u h in (sum k.0, (k.1.0, k.1.1, k.1.2))
 
-  with-some : (x : Got) (go : ℤ → List ℕ → Option (List ℤ)) (vs : List ℤ) → with x go ≡ some vs → (v : ℤ) × ((u : List ℕ) × (x ≡ got v u) × (go v u ≡ some vs))
+  with-some : (x : Got) (go : ℤ → List ℕ → Option (List ℤ)) (vs : List ℤ) → with x go ≡ Some vs → (v : ℤ) × ((u : List ℕ) × (x ≡ got v u) × (go v u ≡ Some vs))
   with-some bad go vs h = none-some h
   with-some (got v u) go vs h = (v, (u, refl, h))
 
-  push-some : (v : ℤ) (o : Option (List ℤ)) (vs : List ℤ) → pushed (some v) o ≡ some vs → (ws : List ℤ) × (o ≡ some ws) × (vs ≡ v ∷ ws)
-  push-some v none vs h = none-some h
-  push-some v (some ws) vs h = (ws, refl, cc)
+  push-some : (v : ℤ) (o : Option (List ℤ)) (vs : List ℤ) → pushed (Some v) o ≡ Some vs → (ws : List ℤ) × (o ≡ Some ws) × (vs ≡ v ∷ ws)
+  push-some v None vs h = none-some h
+  push-some v (Some ws) vs h = (ws, refl, cc)
 
-  cond-some : (c : Bool) (o : Option (List ℤ)) (vs : List ℤ) → cond c o none ≡ some vs → (c ≡ true) × (o ≡ some vs)
+  cond-some : (c : Bool) (o : Option (List ℤ)) (vs : List ℤ) → cond c o None ≡ Some vs → (c ≡ true) × (o ≡ Some vs)
   cond-some true o vs h = (refl, h)
   cond-some false o vs h = none-some h
 
   OperandsSound : List Kind → List ℕ → List ℤ → Type 0
-  OperandsSound ks t vs = (os : Operands ks) × ((n : ℕ) × (t ≡ operands_text os ++ spaces n) × (operands_values os look ≡ some vs))
+  OperandsSound ks t vs = (os : Operands ks) × ((n : ℕ) × (t ≡ operands_text os ++ spaces n) × (operands_values os look ≡ Some vs))
 
-  module _ (k : Kind) (o : Operand k) (t u : List ℕ) (v : ℤ) (h : ℕ) (e : skip t ≡ operand_text o ++ (spaces h ++ u)) (w : operand_value o look ≡ some v) where
+  module _ (k : Kind) (o : Operand k) (t u : List ℕ) (v : ℤ) (h : ℕ) (e : skip t ≡ operand_text o ++ (spaces h ++ u)) (w : operand_value o look ≡ Some v) where
     g : ℕ
     g = length (run_of is_space t)
 
@@ -122,9 +119,9 @@ module _ (look : List ℕ → Option ℤ) where
     unfolding g operands_text
     last-text n = skipped t ∙ ap (spaces g ++◌) (e ∙ ap (λ (x : List ℕ). operand_text o ++ (spaces h ++ x)) n) ∙ simp append_assoc
 
-    last-sound : (vs : List ℤ) → u ≡ [] → some (v ∷ []) ≡ some vs → OperandsSound (k ∷ []) t vs
+    last-sound : (vs : List ℤ) → u ≡ [] → Some (v ∷ []) ≡ Some vs → OperandsSound (k ∷ []) t vs
     unfolding OperandsSound operands_values
-    last-sound vs n q = (last g o h, (0, last-text n, ap (λ (x : Option ℤ). pushed x (some [])) w ∙ q))
+    last-sound vs n q = (last g o h, (0, last-text n, ap (λ (x : Option ℤ). pushed x (Some [])) w ∙ q))
 
     module _ (j : Kind) (ks : List Kind) (os : Operands (j ∷ ks)) (n : ℕ) where
       more-text : head_of u ≡ 44 → tail_of u ≡ operands_text os ++ spaces n → t ≡ operands_text (more g o h os) ++ spaces n
@@ -133,26 +130,26 @@ module _ (look : List ℕ → Option ℤ) where
           let f : u ≡ 44 ∷ (operands_text os ++ spaces n) = cons-is u 44 c (λ z. omega arith) ∙ ap (44 ∷◌) r in
           skipped t ∙ ap (spaces g ++◌) (e ∙ ap (λ (x : List ℕ). operand_text o ++ (spaces h ++ x)) f) ∙ simp append_assoc
 
-      more-sound : (vs ws : List ℤ) → head_of u ≡ 44 → tail_of u ≡ operands_text os ++ spaces n → operands_values os look ≡ some ws → vs ≡ v ∷ ws → OperandsSound (k ∷ (j ∷ ks)) t vs
+      more-sound : (vs ws : List ℤ) → head_of u ≡ 44 → tail_of u ≡ operands_text os ++ spaces n → operands_values os look ≡ Some ws → vs ≡ v ∷ ws → OperandsSound (k ∷ (j ∷ ks)) t vs
       unfolding OperandsSound operands_values
       more-sound vs ws c r q s = (
         more g o h os,
-        (n, more-text c r, ap (λ (x : Option ℤ). pushed x (operands_values os look)) w ∙ ap (pushed (some v)) q ∙ ap some (sym s)),
+        (n, more-text c r, ap (λ (x : Option ℤ). pushed x (operands_values os look)) w ∙ ap (pushed (Some v)) q ∙ ap Some (sym s)),
       )
 
-  operands-sound : (ks : List Kind) (t : List ℕ) (vs : List ℤ) → operands_read ks look t ≡ some vs → OperandsSound ks t vs
+  operands-sound : (ks : List Kind) (t : List ℕ) (vs : List ℤ) → operands_read ks look t ≡ Some vs → OperandsSound ks t vs
   unfolding operands_read OperandsSound OperandSound operands_text operands_values
   operands-sound [] t vs h =
-      let k = cond-some (nothing (skip t)) (some []) vs h in
+      let k = cond-some (nothing (skip t)) (Some []) vs h in
       (without, (length (run_of is_space t), skipped t ∙ ap (spaces (length (run_of is_space t)) ++◌) (is-nothing (skip t) k.0) ∙ append-none (spaces (length (run_of is_space t))), k.1))
   operands-sound (k ∷ []) t vs h =
-      let x = with-some (operand_read k look (skip t)) (λ v u. cond (nothing u) (some (v ∷ [])) none) vs h in
-      let c = cond-some (nothing x.1.0) (some (x.0 ∷ [])) vs x.1.2 in
+      let x = with-some (operand_read k look (skip t)) (λ v u. cond (nothing u) (Some (v ∷ [])) None) vs h in
+      let c = cond-some (nothing x.1.0) (Some (x.0 ∷ [])) vs x.1.2 in
       let o = operand_sound k (skip t) x.0 x.1.0 x.1.1 in
       last-sound k o.0 t x.1.0 x.0 o.1.0 o.1.1 o.1.2 vs (is-nothing x.1.0 c.0) c.1
   operands-sound (k ∷ (j ∷ ks)) t vs h =
-      let x = with-some (operand_read k look (skip t)) (λ v u. cond (eqb (head_of u) 44) (pushed (some v) (operands_read (j ∷ ks) look (tail_of u))) none) vs h in
-      let c = cond-some (eqb (head_of x.1.0) 44) (pushed (some x.0) (operands_read (j ∷ ks) look (tail_of x.1.0))) vs x.1.2 in
+      let x = with-some (operand_read k look (skip t)) (λ v u. cond (eqb (head_of u) 44) (pushed (Some v) (operands_read (j ∷ ks) look (tail_of u))) None) vs h in
+      let c = cond-some (eqb (head_of x.1.0) 44) (pushed (Some x.0) (operands_read (j ∷ ks) look (tail_of x.1.0))) vs x.1.2 in
       let p = push-some x.0 (operands_read (j ∷ ks) look (tail_of x.1.0)) vs c.1 in
       let rest = operands-sound (j ∷ ks) (tail_of x.1.0) p.0 p.1 in
       let o = operand_sound k (skip t) x.0 x.1.0 x.1.1 in
@@ -160,14 +157,14 @@ module _ (look : List ℕ → Option ℤ) where
 
   -- with the space that must stand before the first
   ArgumentsSound : List Kind → List ℕ → List ℤ → Type 0
-  ArgumentsSound ks t vs = (os : Operands ks) × ((n : ℕ) × (t ≡ arguments_text os ++ spaces n) × (operands_values os look ≡ some vs))
+  ArgumentsSound ks t vs = (os : Operands ks) × ((n : ℕ) × (t ≡ arguments_text os ++ spaces n) × (operands_values os look ≡ Some vs))
 
-  spaced : {j : Kind} {ks : List Kind} (os : Operands (register ∷ (j ∷ ks))) (n : ℕ) (t : List ℕ) (vs : List ℤ) → t ≡ operands_text os ++ spaces n → operands_values os look ≡ some vs → is_part (head_of t) ≡ false → ArgumentsSound (register ∷ (j ∷ ks)) t vs
+  spaced : {j : Kind} {ks : List Kind} (os : Operands (register ∷ (j ∷ ks))) (n : ℕ) (t : List ℕ) (vs : List ℤ) → t ≡ operands_text os ++ spaces n → operands_values os look ≡ Some vs → is_part (head_of t) ≡ false → ArgumentsSound (register ∷ (j ∷ ks)) t vs
   unfolding ArgumentsSound operands_text operands_values head_of
   spaced (more zero (reg r p) h os) n t vs e v a = absurd (let q : true ≡ false = sym (ap (λ (u : List ℕ). is_part (head_of u)) e) ∙ a in let z : ◌≡◌ {A = ℕ} 0 1 = cc in omega arith)
   spaced (more (suc g) o h os) n t vs e v a = (more g o h os, (n, e, v))
 
-  arguments_sound : (f : Form) (t : List ℕ) (vs : List ℤ) → is_part (head_of t) ≡ false → operands_read (kinds_of f) look t ≡ some vs → ArgumentsSound (kinds_of f) t vs
+  arguments_sound : (f : Form) (t : List ℕ) (vs : List ℤ) → is_part (head_of t) ≡ false → operands_read (kinds_of f) look t ≡ Some vs → ArgumentsSound (kinds_of f) t vs
   unfolding OperandsSound ArgumentsSound operands_text
   arguments_sound R t vs a h = let k = operands-sound (kinds_of R) t vs h in spaced k.0 k.1.0 t vs k.1.1 k.1.2 a
   arguments_sound I t vs a h = let k = operands-sound (kinds_of I) t vs h in spaced k.0 k.1.0 t vs k.1.1 k.1.2 a
@@ -177,7 +174,7 @@ module _ (look : List ℕ → Option ℤ) where
   arguments_sound J t vs a h = let k = operands-sound (kinds_of J) t vs h in spaced k.0 k.1.0 t vs k.1.1 k.1.2 a
   arguments_sound Alone t vs a h = let k = operands-sound [] t vs h in go k.0 k.1.0 k.1.1 k.1.2
     where
-      go : (os : Operands []) (n : ℕ) → t ≡ operands_text os ++ spaces n → operands_values os look ≡ some vs → ArgumentsSound [] t vs
+      go : (os : Operands []) (n : ℕ) → t ≡ operands_text os ++ spaces n → operands_values os look ≡ Some vs → ArgumentsSound [] t vs
       go without n e v = (without, (n, e, v))
 
 -- ---- names
@@ -193,15 +190,15 @@ module _ (look : Form → List ℕ → Option ℤ) where
   refused : {A : Type 0} (x : Saying) → wrong ≡ x → (x ≡ wrong → ⊥) → A
   refused x e n = absurd (n (sym e))
 
-  told-word : (op : Opcode) (o : Option (List ℤ)) (x : Saying) → saying_of (word_for op o) ≡ x → (x ≡ wrong → ⊥) → (vs : List ℤ) × (o ≡ some vs)
+  told-word : (op : Opcode) (o : Option (List ℤ)) (x : Saying) → saying_of (word_for op o) ≡ x → (x ≡ wrong → ⊥) → (vs : List ℤ) × (o ≡ Some vs)
   unfolding word_for
-  told-word op none x e n = refused x e n
-  told-word op (some vs) x e n = (vs, refl)
+  told-word op None x e n = refused x e n
+  told-word op (Some vs) x e n = (vs, refl)
 
-  op-sound : (g : ℕ) (t : List ℕ) (f : Found) (x : Saying) → opcode_in name_key (key_of (run_of is_part t)) ≡ f → instruction_read f look (past is_part t) ≡ x → (x ≡ wrong → ⊥) → LineSound (spaces g ++ t) x
+  op-sound : (g : ℕ) (t : List ℕ) (f : Option Opcode) (x : Saying) → opcode_in name_key (key_of (run_of is_part t)) ≡ f → instruction_read f look (past is_part t) ≡ x → (x ≡ wrong → ⊥) → LineSound (spaces g ++ t) x
   unfolding LineSound line_text line_saying ArgumentsSound
-  op-sound g t Nothing x e h n = refused x h n
-  op-sound g t (Op op) x e h n =
+  op-sound g t None x e h n = refused x h n
+  op-sound g t (Some op) x e h n =
       let k = told-word op (operands_read (kinds_of (form_of op)) (look (form_of op)) (past is_part t)) x h n in
       let a = arguments_sound (look (form_of op)) (form_of op) (past is_part t) k.0 (past_head is_part t refl) k.1 in
       let name : run_of is_part t ≡ name_of op = one_key (run_of is_part t) (name_of op) (every-run is_part t) (parts-of look (name_of op) (name-is op)) (name-short op) (sym (number-found name_key all (key_of (run_of is_part t)) op e)) in (

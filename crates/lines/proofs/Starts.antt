@@ -1,10 +1,8 @@
 -- How a line begins, and what it then says. Assumes nothing.
-use Rattle.std.proofs.Common.{◌≡◌, ℕ, ◌+◌, ◌^◌, ◌<◌, ◌≤◌, Bool, true, false, cond, eqb, ltb, List, [], ◌∷◌, length, drop, ℤ, sym, refl, ap, ◌∙◌, subst, zero-add, eq-eqb, ne_eqb, eqb-true}
-use mathlib.Core.Option.{Option}
+use Rattle.opcode.specs.declared.Opcode.{Opcode}
+use Rattle.std.proofs.Common.{Option, None, Some, ◌≡◌, ℕ, ◌+◌, ◌^◌, ◌<◌, ◌≤◌, Bool, true, false, cond, eqb, ltb, List, [], ◌∷◌, length, drop, ℤ, sym, refl, ap, ◌∙◌, subst, zero-add, eq-eqb, ne_eqb, eqb-true}
 use Rattle.opcode.specs.Opcodes.{form_of, opcode_in}
 use Rattle.opcode.specs.declared.Form.{Form}
-use Rattle.opcode.specs.declared.Found.{Found}
-use Rattle.opcode.specs.declared.Found.TheVariants.{Op, Nothing}
 use Rattle.names.specs.Names.{name_key}
 use Rattle.labels.specs.Bytes.{is_space, is_letter, is_part, head_of, key_of}
 use Rattle.labels.specs.Reading.{tail_of, run_of, past, skip, name_at, Passed}
@@ -40,9 +38,9 @@ operands-from ks look t = go ks
     go (k ∷ []) = rw twice
     go (k ∷ (j ∷ ks)) = rw twice
 
-instruction-from : (f : Found) (look : Look) (t : List ℕ) → instruction_read f look (skip t) ≡ instruction_read f look t
-instruction-from (Op op) look t = ap (λ (o : Option (List ℤ)). saying_of (word_for op o)) (operands-from (kinds_of (form_of op)) (look (form_of op)) t)
-instruction-from Nothing look t = refl
+instruction-from : (f : Option Opcode) (look : Look) (t : List ℕ) → instruction_read f look (skip t) ≡ instruction_read f look t
+instruction-from (Some op) look t = ap (λ (o : Option (List ℤ)). saying_of (word_for op o)) (operands-from (kinds_of (form_of op)) (look (form_of op)) t)
+instruction-from None look t = refl
 
 module _ (s : List ℕ) where
   at : ℕ

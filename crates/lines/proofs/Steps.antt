@@ -1,6 +1,5 @@
 -- What the reader's definitions say of a line from a place on, case by case. Assumes nothing.
-use Rattle.std.proofs.Common.{◌≡◌, ℕ, zero, suc, ◌+◌, ◌-◌, ◌<◌, ◌≤◌, Bool, true, false, cond, ◌&&◌, eqb, leb, List, [], ◌∷◌, length, drop, ℤ, pos, sym, refl, ap, ◌∙◌, arith, drop_of_length-le, eq-eqb, ne_eqb, eqb-true, leb-true}
-use mathlib.Core.Option.{Option}
+use Rattle.std.proofs.Common.{Option, ◌≡◌, ℕ, zero, suc, ◌+◌, ◌-◌, ◌<◌, ◌≤◌, Bool, true, false, cond, ◌&&◌, eqb, leb, List, [], ◌∷◌, length, drop, ℤ, pos, sym, refl, ap, ◌∙◌, arith, drop_of_length-le, eq-eqb, ne_eqb, eqb-true, leb-true}
 use Rattle.labels.specs.Bytes.{is_space, is_digit, head_of}
 use Rattle.labels.specs.Reading.{tail_of, skip, Passed}
 use Rattle.sums.specs.Reader.{Got, got, bad, onto, sum_read}

@@ -1,6 +1,5 @@
 -- Inner: what the answers say of the line that was read.
-use Rattle.std.specs.Prelude.{ℕ, ◌+◌, ◌^◌, ◌≤◌, Bool, true, false, cond, ◌&&◌, ◌||◌, List, length, drop, ℤ, pos, ◌==◌, nat_le, nat_lt}
-use Rattle.std.proofs.Math.Option.{Option}
+use Rattle.std.specs.Prelude.{Option, ℕ, ◌+◌, ◌^◌, ◌≤◌, Bool, true, false, cond, ◌&&◌, ◌||◌, List, length, drop, ℤ, pos, ◌==◌, nat_le, nat_lt}
 use Rattle.opcode.specs.declared.Form.{Form}
 use Rattle.opcode.specs.declared.Form.TheVariants.{R, I, Shift, S, B, J, Alone}
 use Rattle.labels.specs.Bytes.{is_space, is_letter, is_part, head_of, key_of}

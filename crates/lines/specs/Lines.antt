@@ -1,7 +1,7 @@
 -- A line of the assembler's language: what can be written, as trees that hold every space; the text of a tree; the word of an
 -- instruction. "One instruction a line, operands in the order rd, rs1, rs2, immediate as far as present; commas between operands."
-use Rattle.std.specs.Prelude.{◌≡◌, ℕ, zero, suc, true, List, [], ◌∷◌, ◌++◌, ℤ, pos, nat_lt}
-use Rattle.std.proofs.Math.Option.{Option, none, some}
+use Rattle.refusal.specs.declared.Refusal.{Refusal}
+use Rattle.std.specs.Prelude.{None, Option, Some, Err, Ok, Result, ◌≡◌, ℕ, zero, suc, true, List, [], ◌∷◌, ◌++◌, ℤ, pos, nat_lt}
 use Rattle.std.specs.Int.{w64}
 use Rattle.std.proofs.Common.{of_z}
 use Rattle.opcode.specs.Opcodes.{opcode_number, form_of}
@@ -10,8 +10,6 @@ use Rattle.opcode.specs.declared.Form.{Form}
 use Rattle.opcode.specs.declared.Form.TheVariants.{R, I, Shift, S, B, J, Alone}
 use Rattle.instruction.specs.declared.Parts.{Parts}
 use Rattle.words.specs.Words.{encoded_in}
-use Rattle.words.specs.declared.Encoded.{Encoded}
-use Rattle.words.specs.declared.Encoded.TheVariants as E
 use Rattle.names.specs.Names.{name_of, register_text}
 use Rattle.labels.specs.Bytes.{is_name, spaces}
 use Rattle.sums.specs.Sums.{Sum, sum_text, sum_value}
@@ -65,17 +63,17 @@ line_text (instruction g op os h) = spaces g ++ (name_of op ++ (arguments_text o
 
 -- ---- the word, where `look` gives the labels' values
 abbrev pub operand_value : {k : Kind} → Operand k → (List ℕ → Option ℤ) → Option ℤ
-operand_value (reg r h) look = some (pos r)
+operand_value (reg r h) look = Some (pos r)
 operand_value (sum e) look = sum_value e look 16
 
 abbrev pub pushed : Option ℤ → Option (List ℤ) → Option (List ℤ)
-pushed none vs = none
-pushed (some v) none = none
-pushed (some v) (some vs) = some (v ∷ vs)
+pushed None vs = None
+pushed (Some v) None = None
+pushed (Some v) (Some vs) = Some (v ∷ vs)
 
 unfoldable pub operands_values : {ks : List Kind} → Operands ks → (List ℕ → Option ℤ) → Option (List ℤ)
-operands_values without look = some []
-operands_values (last g o h) look = pushed (operand_value o look) (some [])
+operands_values without look = Some []
+operands_values (last g o h) look = pushed (operand_value o look) (Some [])
 operands_values (more g o h os) look = pushed (operand_value o look) (operands_values os look)
 
 -- the number of an operand modulo 2^64, counted from 0
@@ -97,14 +95,14 @@ parts_by op B vs = parts op (bits_at vs 0) (bits_at vs 1) 0 (bits_at vs 2)
 parts_by op J vs = parts op (bits_at vs 0) 0 0 (bits_at vs 1)
 parts_by op Alone vs = parts op 0 0 0 0
 
-abbrev pub word_made : Encoded → Option ℕ
-word_made (E.Word w) = some w
-word_made (E.Refused r) = none
+abbrev pub word_made : Result ℕ Refusal → Option ℕ
+word_made (Ok w) = Some w
+word_made (Err r) = None
 
 -- the word, if every value is one and fits its field
 unfoldable pub word_for : Opcode → Option (List ℤ) → Option ℕ
-word_for op none = none
-word_for op (some vs) = word_made (encoded_in opcode_number (parts_by op (form_of op) vs))
+word_for op None = None
+word_for op (Some vs) = word_made (encoded_in opcode_number (parts_by op (form_of op) vs))
 
 -- what a line says: nothing, a label, an instruction's word, or what is wrong. `look` gives the labels' values, which in a branch
 -- or a jump are distances
@@ -115,8 +113,8 @@ pub data Saying : Type 0 where
   wrong : Saying
 
 abbrev pub saying_of : Option ℕ → Saying
-saying_of none = wrong
-saying_of (some w) = word w
+saying_of None = wrong
+saying_of (Some w) = word w
 
 unfoldable pub line_saying : Line → (Form → List ℕ → Option ℤ) → Saying
 line_saying (blank g) look = empty

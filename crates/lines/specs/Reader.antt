@@ -1,10 +1,8 @@
 -- Inner: what a line is read as, from the text that is left. Lines.antt says what is right.
-use Rattle.std.specs.Prelude.{ℕ, ◌-◌, Bool, true, false, cond, ◌&&◌, List, [], ◌∷◌, ℤ, pos, ◌==◌, nat_le}
-use Rattle.std.proofs.Math.Option.{Option, none, some}
+use Rattle.opcode.specs.declared.Opcode.{Opcode}
+use Rattle.std.specs.Prelude.{Option, None, Some, ℕ, ◌-◌, Bool, true, false, cond, ◌&&◌, List, [], ◌∷◌, ℤ, pos, ◌==◌, nat_le}
 use Rattle.opcode.specs.Opcodes.{opcode_in, form_of}
 use Rattle.opcode.specs.declared.Form.{Form}
-use Rattle.opcode.specs.declared.Found.{Found}
-use Rattle.opcode.specs.declared.Found.TheVariants.{Op, Nothing}
 use Rattle.names.specs.Names.{name_key}
 use Rattle.labels.specs.Bytes.{is_digit, is_letter, is_part, head_of, key_of}
 use Rattle.labels.specs.Reading.{tail_of, run_of, past, skip}
@@ -33,17 +31,17 @@ nothing (b ∷ t) = false
 
 abbrev pub with : Got → (ℤ → List ℕ → Option (List ℤ)) → Option (List ℤ)
 with (got v t) go = go v t
-with bad go = none
+with bad go = None
 
 unfoldable pub operands_read : List Kind → (List ℕ → Option ℤ) → List ℕ → Option (List ℤ)
-operands_read [] look t = cond (nothing (skip t)) (some []) none
-operands_read (k ∷ []) look t = with (operand_read k look (skip t)) (λ v u. cond (nothing u) (some (v ∷ [])) none)
+operands_read [] look t = cond (nothing (skip t)) (Some []) None
+operands_read (k ∷ []) look t = with (operand_read k look (skip t)) (λ v u. cond (nothing u) (Some (v ∷ [])) None)
 operands_read (k ∷ (j ∷ ks)) look t =
-    with (operand_read k look (skip t)) (λ v u. cond (head_of u == 44) (pushed (some v) (operands_read (j ∷ ks) look (tail_of u))) none)
+    with (operand_read k look (skip t)) (λ v u. cond (head_of u == 44) (pushed (Some v) (operands_read (j ∷ ks) look (tail_of u))) None)
 
-abbrev pub instruction_read : Found → (Form → List ℕ → Option ℤ) → List ℕ → Saying
-instruction_read (Op op) look t = saying_of (word_for op (operands_read (kinds_of (form_of op)) (look (form_of op)) t))
-instruction_read Nothing look t = wrong
+abbrev pub instruction_read : Option Opcode → (Form → List ℕ → Option ℤ) → List ℕ → Saying
+instruction_read (Some op) look t = saying_of (word_for op (operands_read (kinds_of (form_of op)) (look (form_of op)) t))
+instruction_read None look t = wrong
 
 -- what a line says that begins with a letter
 unfoldable pub word_read : (Form → List ℕ → Option ℤ) → List ℕ → Saying

@@ -1,8 +1,7 @@
 // An instruction's operands, by its form, and its word: a number, which comes back in a register, where an enum would go through memory.
-ghost use Rattle.std.specs.Prelude.{◌≡◌, ◌^◌, ◌<◌, true, [], drop};
+ghost use Rattle.std.specs.Prelude.{Some, ◌≡◌, ◌^◌, ◌<◌, true, [], drop};
 ghost use Rattle.opcode.specs.Opcodes.{opcode_number, form_of};
 ghost use Rattle.opcode.specs.declared.Form.TheVariants as Form·;
-ghost use Rattle.opcode.specs.declared.Found.TheVariants as Found·;
 ghost use Rattle.words.specs.Words.{encoded_in};
 ghost use Rattle.std.specs.Int.{w64};
 ghost use Rattle.std.proofs.Common.{of_z};
@@ -17,7 +16,7 @@ use instruction::Parts;
 use labels::text::skip;
 use opcode::{Form, Opcode};
 use sums::Read;
-use words::{Encoded, encode_parts};
+use words::encode_parts;
 
 // Instead of a word, where a line is wrong.
 pub(crate) const WRONG: u64 = 0x1_0000_0000;
@@ -32,8 +31,8 @@ fn word(p: Parts) -> u64
     ensures { saying_of (word_made (encoded_in opcode_number p)) ≡ word_or_wrong result }
 {
     match encode_parts(p) {
-        Encoded::Word(w) => wide(w),
-        Encoded::Refused(_) => WRONG,
+        Ok(w) => wide(w),
+        Err(_) => WRONG,
     }
 }
 
@@ -133,7 +132,7 @@ pub(crate) fn instruction(
     op: Opcode,
     at: usize,
 ) -> u64
-    ensures { instruction_read (Found·.Op op) (labels_in text.now table.now own) (drop at s.now) ≡ word_or_wrong result }
+    ensures { instruction_read (Some op) (labels_in text.now table.now own) (drop at s.now) ≡ word_or_wrong result }
 {
     let f = form_of(op);
     match f {

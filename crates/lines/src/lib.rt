@@ -12,7 +12,6 @@ use instructions::{WRONG, instruction};
 use labels::table::name_at;
 use labels::text::{byte, letter, skip};
 use names::named;
-use opcode::Found;
 
 // How a line begins: with nothing; as the definition of the label at a place; with a name, which may be an instruction's: its key, and the
 // place of what follows; or with something else.
@@ -71,7 +70,7 @@ pub fn line(s: &[u8], text: &[u8], table: &[u64], own: u64) -> Said
         Start::Blank => Said::Blank,
         Start::Label(_) => Said::Name,
         Start::Word(key, n) => {
-            let Found::Op(op) = named(key) else {
+            let Some(op) = named(key) else {
                 return Said::Bad;
             };
             word_or_bad(instruction(s, text, table, own, op, n))

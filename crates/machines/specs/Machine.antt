@@ -9,7 +9,8 @@ use Rattle.execute.specs.World.{World, world_of, Stepped}
 use Rattle.given.specs.Given.{execute_one}
 use Rattle.execute.specs.Rules.{document_rules}
 use Rattle.execute.specs.declared.Went.{Went}
-use Rattle.pending.specs.Pending.{Lists, Check}
+use Rattle.pending.specs.Pending.{Lists}
+use Rattle.pending.specs.declared.Check.{Check}
 use Rattle.step.specs.Step.{Left, step}
 use Rattle.run.specs.Run.{Answer, stop_of, run}
 use Rattle.layout.specs.Layout.{STATE_BYTES, state_bytes, state_in, well_laid, written}

@@ -22,7 +22,7 @@ use layout::answer::write_answer;
 use layout::laid::well_laid;
 use layout::reading::read_state;
 use layout::writing::write_state;
-use pending::Checks;
+use pending::Check;
 use refusal::Refusal;
 use run::Ran;
 use run::legs::stop_of;
@@ -38,16 +38,16 @@ fn legible(state: &[u8], mode: u64) -> bool
     well_laid(state)
 }
 
-fn first_of(checks: Checks) -> Triple
+fn first_of(checks: Option<Check>) -> Triple
     ensures { result ≡ check_triple (checks_of checks) }
 {
     match checks {
-        Checks::Nothing => Triple {
+        None => Triple {
             first: 0,
             second: 0,
             third: 0,
         },
-        Checks::One { value, bound } => Triple {
+        Some(Check { value, bound }) => Triple {
             first: 1,
             second: value,
             third: bound as u64,
@@ -86,7 +86,7 @@ pub extern "C" fn oracle_execute(
 {
     if !legible(state, mode) {
         write_triple(answer, refused(Refusal::Malformed));
-        write_triple(check, first_of(Checks::Nothing));
+        write_triple(check, first_of(None));
         return;
     }
     let i = coding::given(opcode, a, b, c, imm);

@@ -1,4 +1,5 @@
 -- The cases of an access, and the answer in each.
+use Rattle.std.specs.Prelude.{Err, Ok, Result, ⊤}
 use Prim.Native.Nat.{ℕ, ◌+◌, ◌%◌, ◌≤◌}
 use mathlib.Core.Path.{◌≡◌, refl, sym}
 use mathlib.Core.Bool.{Bool, true, false, cond}
@@ -6,9 +7,11 @@ use native.Mathlib.Omega.{arith}
 use lib.Dec.{leb, eqb}
 use borrow.Author.Tests.{leb-true}
 use Rattle.refusal.specs.declared.Refusal.{Refusal}
-use Rattle.memory.specs.Memory.{size_of, access_of, on_access, store_of}
+use mathlib.Core.List.{List}
+use lib.ListN.{length}
+use Rattle.memory.specs.Bytes.{number_at}
+use Rattle.memory.specs.Memory.{size_of, access_of, on_access, load_of, store_of}
 use Rattle.memory.specs.declared.Size.{Size}
-use Rattle.memory.specs.declared.Stored.TheVariants as S
 use Rattle.memory.specs.declared.Access.{Access}
 use Rattle.memory.specs.declared.Access.TheVariants.{Served, Beyond, Misaligned}
 
@@ -51,11 +54,33 @@ module _ {A : Type 0} (served beyond mis : A) (w : Access) where
   on-mis e = rw e
 
 -- a store that is served is within the memory
-pub stored-fits : (size : Size) (len address : ℕ) → store_of size len address ≡ S.Done → address + size_of size ≤ len
+pub stored-fits : (size : Size) (len address : ℕ) → store_of size len address ≡ Ok tt → address + size_of size ≤ len
 unfolding on_access
 stored-fits size len address e = served-fits (size_of size) len address (served _ _ (access_of (size_of size) len address) e)
   where
-    served : (q r : Refusal) (w : Access) → on_access S.Done (S.Refused q) (S.Refused r) w ≡ S.Done → w ≡ Served
+    served : (q r : Refusal) (w : Access) → on_access {A = Result ⊤ Refusal} (Ok tt) (Err q) (Err r) w ≡ Ok tt → w ≡ Served
     served q r Served e = refl
     served q r Beyond e = cc
     served q r Misaligned e = cc
+
+-- a load is served and refused as a store is
+module _ (size : Size) (m : List ℕ) (address : ℕ) where
+  pub load_served : store_of size (length m) address ≡ Ok tt → load_of size m address ≡ Ok (number_at (size_of size) m address)
+  unfolding on_access
+  load_served e = by _ _ (access_of (size_of size) (length m) address) e
+    where
+      by : (q r : Refusal) (w : Access) → on_access {A = Result ⊤ Refusal} (Ok tt) (Err q) (Err r) w ≡ Ok tt
+          → on_access {A = Result ℕ Refusal} (Ok (number_at (size_of size) m address)) (Err q) (Err r) w ≡ Ok (number_at (size_of size) m address)
+      by q r Served e = refl
+      by q r Beyond e = cc
+      by q r Misaligned e = cc
+
+  pub load_refused : (t : Refusal) → store_of size (length m) address ≡ Err t → load_of size m address ≡ Err t
+  unfolding on_access
+  load_refused t e = by _ _ (access_of (size_of size) (length m) address) e
+    where
+      by : (q r : Refusal) (w : Access) → on_access {A = Result ⊤ Refusal} (Ok tt) (Err q) (Err r) w ≡ Err t
+          → on_access {A = Result ℕ Refusal} (Ok (number_at (size_of size) m address)) (Err q) (Err r) w ≡ Err t
+      by q r Served e = cc
+      by q r Beyond e = cc
+      by q r Misaligned e = cc

@@ -1,17 +1,12 @@
 -- Document 01: "Memory is one lent slice from address 0, little-endian", and refusals 2, 3, 6 and 7 of "Stops and refusals".
-use Rattle.std.specs.Prelude.{ℕ, ◌+◌, ◌%◌, List, cond, length, leb, eqb}
+use Rattle.refusal.specs.declared.Refusal.{Refusal}
+use Rattle.std.specs.Prelude.{Err, Ok, Result, ⊤, ℕ, ◌+◌, ◌%◌, List, cond, length, leb, eqb}
 use Rattle.refusal.specs.Stops.{refusal_of}
 use Rattle.memory.specs.Bytes.{number_at, put_at}
 use Rattle.memory.specs.declared.Size.{Size}
 use Rattle.memory.specs.declared.Size.TheVariants.{Byte, Half, Word, Double}
 use Rattle.memory.specs.declared.Access.{Access}
 use Rattle.memory.specs.declared.Access.TheVariants.{Served, Beyond, Misaligned}
-use Rattle.memory.specs.declared.Loaded.{Loaded}
-use Rattle.memory.specs.declared.Loaded.TheVariants as L
-use Rattle.memory.specs.declared.Stored.{Stored}
-use Rattle.memory.specs.declared.Stored.TheVariants as S
-use Rattle.memory.specs.declared.Fetched.{Fetched}
-use Rattle.memory.specs.declared.Fetched.TheVariants as F
 
 abbrev pub size_of : Size → ℕ
 size_of Byte = 1
@@ -34,27 +29,27 @@ on_access served beyond misaligned Misaligned = misaligned
 abbrev pub beyond_at : ℕ → ℕ → ℕ
 beyond_at len address = cond (leb len address) address len
 
-abbrev pub load_of : Size → List ℕ → ℕ → Loaded
+abbrev pub load_of : Size → List ℕ → ℕ → Result ℕ Refusal
 load_of size m address =
     on_access
-    (L.Value (number_at (size_of size) m address))
-    (L.Refused (refusal_of 2 (beyond_at (length m) address)))
-    (L.Refused (refusal_of 3 address))
+    (Ok (number_at (size_of size) m address))
+    (Err (refusal_of 2 (beyond_at (length m) address)))
+    (Err (refusal_of 3 address))
     (access_of (size_of size) (length m) address)
 
 -- whether a store in a memory of len bytes is served
-abbrev pub store_of : Size → ℕ → ℕ → Stored
+abbrev pub store_of : Size → ℕ → ℕ → Result ⊤ Refusal
 store_of size len address =
-    on_access S.Done (S.Refused (refusal_of 2 (beyond_at len address))) (S.Refused (refusal_of 3 address)) (access_of (size_of size) len address)
+    on_access (Ok tt) (Err (refusal_of 2 (beyond_at len address))) (Err (refusal_of 3 address)) (access_of (size_of size) len address)
 
-unfoldable pub on_stored : {A : Type 0} → A → A → Stored → A
-on_stored done refused S.Done = done
-on_stored done refused (S.Refused r) = refused
+unfoldable pub on_stored : {A : Type 0} → A → A → Result ⊤ Refusal → A
+on_stored done refused (Ok tt) = done
+on_stored done refused (Err r) = refused
 
 -- the memory after a store: a refused one leaves it
 abbrev pub memory_after : Size → List ℕ → ℕ → ℕ → List ℕ
 memory_after size m address v = on_stored (put_at (size_of size) m address v) m (store_of size (length m) address)
 
 -- the word at the pc
-abbrev pub fetch_of : List ℕ → ℕ → Fetched
-fetch_of m pc = on_access (F.Word (number_at 4 m pc)) (F.Refused (refusal_of 7 pc)) (F.Refused (refusal_of 6 pc)) (access_of 4 (length m) pc)
+abbrev pub fetch_of : List ℕ → ℕ → Result ℕ Refusal
+fetch_of m pc = on_access (Ok (number_at 4 m pc)) (Err (refusal_of 7 pc)) (Err (refusal_of 6 pc)) (access_of 4 (length m) pc)

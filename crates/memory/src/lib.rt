@@ -25,24 +25,6 @@ pub enum Access {
     Misaligned,
 }
 
-#[derive(Clone, Copy)]
-pub enum Loaded {
-    Value(u64),
-    Refused(Refusal),
-}
-
-#[derive(Clone, Copy)]
-pub enum Stored {
-    Done,
-    Refused(Refusal),
-}
-
-#[derive(Clone, Copy)]
-pub enum Fetched {
-    Word(u32),
-    Refused(Refusal),
-}
-
 fn aligned(address: u64, size: Size) -> bool
     ensures { result ≡ eqb (address % size_of size) 0 }
 {
@@ -127,45 +109,38 @@ fn write(m: &mut [u8], at: usize, size: Size, value: u64)
     }
 }
 
-pub fn load(m: &[u8], address: u64, size: Size) -> Loaded
-    ensures { result ≡ load_of size m.now address }
-{
-    match reach(m.len(), address, size) {
-        Access::Served => Loaded::Value(read(m, address as usize, size)),
-        Access::Beyond => Loaded::Refused(Refusal::Beyond {
-            missing: beyond_at(m.len(), address),
-        }),
-        Access::Misaligned => Loaded::Refused(Refusal::Misaligned { address }),
-    }
-}
-
-// What a store would answer: nothing is stored.
-fn storable(len: usize, address: u64, size: Size) -> Stored
+// What a store would answer, and a load that is refused: nothing is stored.
+fn storable(len: usize, address: u64, size: Size) -> Result<(), Refusal>
     ensures { result ≡ store_of size len address }
 {
     match reach(len, address, size) {
-        Access::Served => Stored::Done,
-        Access::Beyond => Stored::Refused(Refusal::Beyond {
+        Access::Served => Ok(()),
+        Access::Beyond => Err(Refusal::Beyond {
             missing: beyond_at(len, address),
         }),
-        Access::Misaligned => Stored::Refused(Refusal::Misaligned { address }),
+        Access::Misaligned => Err(Refusal::Misaligned { address }),
     }
 }
 
-fn store_sized(m: &mut [u8], address: u64, size: Size, value: u64) -> Stored
+#[tactic(auto, using(crate::proofs::Accesses::load_served, crate::proofs::Accesses::load_refused))]
+pub fn load(m: &[u8], address: u64, size: Size) -> Result<u64, Refusal>
+    ensures { result ≡ load_of size m.now address }
+{
+    storable(m.len(), address, size)?;
+    Ok(read(m, address as usize, size))
+}
+
+#[tactic(auto, unfolding(crate::specs::Memory::on_stored))]
+fn store_sized(m: &mut [u8], address: u64, size: Size, value: u64) -> Result<(), Refusal>
     ensures { (result ≡ store_of size (length m.old) address) × (m.new ≡ memory_after size m.old address value) }
 {
-    match storable(m.len(), address, size) {
-        Stored::Done => {
-            write(m, address as usize, size, value);
-            Stored::Done
-        }
-        Stored::Refused(r) => Stored::Refused(r),
-    }
+    storable(m.len(), address, size)?;
+    write(m, address as usize, size, value);
+    Ok(())
 }
 
 // Stores the value's low bytes, as many as the size. Each size by itself, so that the compiler makes one store of the bytes.
-pub fn store(m: &mut [u8], address: u64, size: Size, value: u64) -> Stored
+pub fn store(m: &mut [u8], address: u64, size: Size, value: u64) -> Result<(), Refusal>
     ensures { (result ≡ store_of size (length m.old) address) × (m.new ≡ memory_after size m.old address value) }
 {
     match size {
@@ -176,12 +151,12 @@ pub fn store(m: &mut [u8], address: u64, size: Size, value: u64) -> Stored
     }
 }
 
-pub fn fetch(m: &[u8], pc: u64) -> Fetched
+pub fn fetch(m: &[u8], pc: u64) -> Result<u32, Refusal>
     ensures { result ≡ fetch_of m.now pc }
 {
     match reach(m.len(), pc, Size::Word) {
-        Access::Served => Fetched::Word(bytes::four_at(m, pc as usize)),
-        Access::Beyond => Fetched::Refused(Refusal::PcBeyond { pc }),
-        Access::Misaligned => Fetched::Refused(Refusal::PcMisaligned { pc }),
+        Access::Served => Ok(bytes::four_at(m, pc as usize)),
+        Access::Beyond => Err(Refusal::PcBeyond { pc }),
+        Access::Misaligned => Err(Refusal::PcMisaligned { pc }),
     }
 }

@@ -1,4 +1,5 @@
 -- The fifty names, computed once over the list of opcodes: they differ, and the code's table has them. Assumes nothing.
+use Rattle.std.specs.Prelude.{Some}
 use mathlib.Core.Path.{◌≡◌, refl, sym, ap, ◌∙◌}
 use mathlib.Core.Bool.{Bool, true, false, ◌&&◌}
 use mathlib.Core.List.{List, map}
@@ -12,18 +13,17 @@ use Rattle.labels.specs.Bytes.{key_from, key_of}
 use Rattle.opcode.specs.Opcodes.{opcode_number, all, first_with, opcode_in}
 use Rattle.opcode.specs.declared.Opcode.{Opcode}
 use Rattle.opcode.specs.declared.Opcode.TheVariants as O
-use Rattle.opcode.specs.declared.Found.TheVariants.{Op}
 use Rattle.opcode.proofs.Arms.{everywhere}
 use Rattle.opcode.proofs.Variants.{place, all-at}
 use Rattle.names.specs.Names.{name_of, name_key}
 
 -- an opcode's name is found, so no two have the same
-pub found : (op : Opcode) → opcode_in name_key (name_key op) ≡ Op op
+pub found : (op : Opcode) → opcode_in name_key (name_key op) ≡ Some op
 unfolding all first_with key_from
-found = everywhere all O.Add place all-at (λ (op : Opcode). opcode_in name_key (name_key op)) (λ (op : Opcode). Op op) refl refl
+found = everywhere all O.Add place all-at (λ (op : Opcode). opcode_in name_key (name_key op)) (λ (op : Opcode). Some op) refl refl
 
 pub distinct : (o p : Opcode) → name_of o ≡ name_of p → o ≡ p
-distinct o p e = let q : Op o ≡ Op p = sym (found o) ∙ ap (λ (n : List ℕ). opcode_in name_key (key_of n)) e ∙ found p in cc
+distinct o p e = let q : Some o ≡ Some p = sym (found o) ∙ ap (λ (n : List ℕ). opcode_in name_key (key_of n)) e ∙ found p in cc
 
 -- ---- the code's table
 pub numbered : (op : Opcode) → (1 ≤ opcode_number op) × (opcode_number op ≤ 50)

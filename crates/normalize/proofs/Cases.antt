@@ -1,20 +1,18 @@
 -- The cases of the functions of normalize.rs, from what the code tests and calls.
 use Prim.Native.Nat.{ℕ, ◌+◌, ◌*◌, ◌%◌, ◌^◌, ◌<◌, ◌≤◌}
-use mathlib.Core.Path.{◌≡◌, refl}
-use mathlib.Core.Bool.{Bool, true, false, cond, ◌||◌}
-use native.Mathlib.Omega.{arith}
-use lib.Dec.{leb}
+use mathlib.Core.Path.{◌≡◌}
+use mathlib.Core.Bool.{Bool, true, false, cond}
 use lib.ListN.{get_or}
-use borrow.Author.Tests.{lt-ltb, le-ltb, ne_eqb, leb-false}
+use borrow.Author.Tests.{lt-ltb, le-ltb, ne_eqb}
 use Rattle.state.specs.Held.{low_of, high_of, waits, kept}
-use Rattle.state.specs.Registers.{Registers, holds, noted, place}
-use Rattle.state.specs.Formed.{registers_of}
+use Rattle.state.specs.declared.registers.Registers.{Registers}
+use Rattle.state.specs.Registers.{holds, noted, place}
 use Rattle.normalize.specs.Normalizing.{result_of, zeros, would_overflow, with_registers, made_whole, unneeded, malformed, normalized_to, normalize_register, normalize_and_write, normalize_if_near_overflow}
 use Rattle.state.specs.declared.State.{State}
 use Rattle.normalize.specs.declared.NormalizationResult.{NormalizationResult}
 
 module _ (s : State) (n : ℕ) where
-  pub whole-written : (v : ℕ) (R : Registers) → R ≡ place (n % 16) v false (noted (registers_of s) n) (registers_of s) → with_registers s R ≡ made_whole s n v
+  pub whole-written : (v : ℕ) (R : Registers) → R ≡ place (n % 16) v false (noted s.registers n) s.registers → with_registers s R ≡ made_whole s n v
   unfolding kept waits
   whole-written v R e = rw e
 
@@ -26,12 +24,12 @@ module _ (s : State) (n : ℕ) where
   unfolding normalize_register
   register-zero e = rw e
 
-  pub register-whole : n < 16 → (n ≡ 0 → ⊥) → waits (holds (registers_of s) n) ≡ false → unneeded s ≡ normalize_register s n
+  pub register-whole : n < 16 → (n ≡ 0 → ⊥) → waits (holds s.registers n) ≡ false → unneeded s ≡ normalize_register s n
   unfolding normalize_register
   register-whole h z e = rw (lt-ltb n 16 h, ne_eqb n 0 z, e)
 
-  pub register-limbs : (low high : ℕ) → n < 16 → (n ≡ 0 → ⊥) → waits (holds (registers_of s) n) ≡ true
-      → low ≡ low_of (holds (registers_of s) n) → high ≡ high_of (holds (registers_of s) n) → normalize_and_write s n low high ≡ normalize_register s n
+  pub register-limbs : (low high : ℕ) → n < 16 → (n ≡ 0 → ⊥) → waits (holds s.registers n) ≡ true
+      → low ≡ low_of (holds s.registers n) → high ≡ high_of (holds s.registers n) → normalize_and_write s n low high ≡ normalize_register s n
   unfolding normalize_register
   register-limbs low high h z e p q = rw (lt-ltb n 16 h, ne_eqb n 0 z, e, p, q)
 
@@ -39,12 +37,12 @@ module _ (s : State) (n : ℕ) where
   unfolding normalize_if_near_overflow
   near-malformed h = rw (le-ltb n 16 h)
 
-  pub near-whole : n < 16 → waits (holds (registers_of s) n) ≡ false → unneeded s ≡ normalize_if_near_overflow s n
+  pub near-whole : n < 16 → waits (holds s.registers n) ≡ false → unneeded s ≡ normalize_if_near_overflow s n
   unfolding normalize_if_near_overflow
   near-whole h e = rw (lt-ltb n 16 h, e)
 
-  pub near-limbs : (t : Bool) → n < 16 → waits (holds (registers_of s) n) ≡ true
-      → would_overflow (low_of (holds (registers_of s) n)) (high_of (holds (registers_of s) n)) ≡ t
+  pub near-limbs : (t : Bool) → n < 16 → waits (holds s.registers n) ≡ true
+      → would_overflow (low_of (holds s.registers n)) (high_of (holds s.registers n)) ≡ t
       → cond t (normalize_register s n) (unneeded s) ≡ normalize_if_near_overflow s n
   unfolding normalize_if_near_overflow
   near-limbs t h e f = rw (lt-ltb n 16 h, e, f)
@@ -67,11 +65,3 @@ module _ (s : State) (n : ℕ) where
         → normalized_to r t ≡ normalize_and_write s n low high
     unfolding normalize_and_write
     write_done r t h z e p q = rw (lt-ltb n 16 h, ne_eqb n 0 z, e, q, p)
-
-pub none-large : (low high : ℕ) → would_overflow low high ≡ false → (low < 2 ^ 30) × (high < 2 ^ 30)
-none-large low high e = both (leb (2 ^ 30) low) (leb (2 ^ 30) high) refl refl e
-  where
-    both : (t u : Bool) → leb (2 ^ 30) low ≡ t → leb (2 ^ 30) high ≡ u → (t || u) ≡ false → (low < 2 ^ 30) × (high < 2 ^ 30)
-    both true u p q z = let n : ◌≡◌ {A = ℕ} 0 1 = cc in absurd (omega arith)
-    both false true p q z = let n : ◌≡◌ {A = ℕ} 0 1 = cc in absurd (omega arith)
-    both false false p q z = (leb-false _ _ p, leb-false _ _ q)

@@ -2,8 +2,8 @@
 use Rattle.std.specs.Prelude.{ℕ, ◌+◌, ◌*◌, ◌^◌, Bool, cond, not, ◌&&◌, ◌||◌, [], ◌∷◌, get_or, ltb, leb, eqb}
 use Rattle.refusal.specs.Stops.{refusal_of}
 use Rattle.state.specs.Held.{Whole, low_of, high_of, waits, normal, joined}
-use Rattle.state.specs.Registers.{Registers, holds, noted, put}
-use Rattle.state.specs.Formed.{registers_of}
+use Rattle.state.specs.declared.registers.Registers.{Registers}
+use Rattle.state.specs.Registers.{holds, noted, put}
 use Rattle.state.specs.declared.State.{State}
 use Rattle.normalize.specs.declared.NormalizationResult.{NormalizationResult}
 use Rattle.normalize.specs.declared.Normalized.{Normalized}
@@ -28,11 +28,11 @@ would_overflow low high = leb (2 ^ 30) low || leb (2 ^ 30) high
 
 -- the state with other registers
 abbrev pub with_registers : State → Registers → State
-with_registers s R = record { pc = s.pc; halted = s.halted; regs = R.values; accumulated = R.accumulated; bounds = R.bounds }
+with_registers s R = record { pc = s.pc; halted = s.halted; registers = R }
 
 -- a register made whole, which keeps its bound
 abbrev pub made_whole : State → ℕ → ℕ → State
-made_whole s n v = let R = registers_of s in with_registers s (put R n (Whole v) (noted R n))
+made_whole s n v = let R = s.registers in with_registers s (put R n (Whole v) (noted R n))
 
 abbrev pub unneeded : State → Normalized
 unneeded s = record { answer = Unneeded; result = zeros; state = s }
@@ -55,11 +55,11 @@ normalize_and_write s n low high =
 -- "Normalising it, or R0, does nothing. Normalising an accumulated one follows `normalize_and_write`", which refuses limbs of 2^30 or more
 unfoldable pub normalize_register : State → ℕ → Normalized
 normalize_register s n =
-    let h = holds (registers_of s) n in
+    let h = holds s.registers n in
     cond (ltb n 16) (cond (not (eqb n 0) && waits h) (normalize_and_write s n (low_of h) (high_of h)) (unneeded s)) (malformed s)
 
 -- where limbs don't fit in 30 bits, which no register may hold: so nothing is normalised here
 unfoldable pub normalize_if_near_overflow : State → ℕ → Normalized
 normalize_if_near_overflow s n =
-    let h = holds (registers_of s) n in
+    let h = holds s.registers n in
     cond (ltb n 16) (cond (waits h && would_overflow (low_of h) (high_of h)) (normalize_register s n) (unneeded s)) (malformed s)

@@ -5,7 +5,7 @@ ghost use Rattle.std.specs.Prelude.{◌≡◌, ◌<◌, ◌+◌, ◌*◌, ◌^�
 ghost use Rattle.normalize.specs.Normalizing.{result_of, zeros, made_whole, unneeded, malformed, has_carries, total_carry, would_overflow, normalize_and_write, normalize_register, normalize_if_near_overflow};
 
 use refusal::Refusal;
-use state::{State, registers};
+use state::State;
 
 // The limbs before, the limbs after, and the carry out of each.
 #[derive(Clone, Copy)]
@@ -119,20 +119,10 @@ fn joined(r: NormalizationResult) -> u64
 fn made_whole(s: State, reg: u8, v: u64) -> State
     ensures { result ≡ made_whole s reg v }
 {
-    let mut regs = s.regs;
-    let mut accumulated = s.accumulated;
-    let mut bounds = s.bounds;
-    let bound = registers::bound_at(&bounds, reg);
-    registers::write(
-        &mut regs,
-        &mut accumulated,
-        &mut bounds,
-        reg,
-        v,
-        false,
-        bound,
-    );
-    state::together(s.pc, s.halted, regs, accumulated, bounds)
+    let mut registers = s.registers;
+    let bound = registers.bound_at(reg);
+    registers.write(reg, v, false, bound);
+    state::together(s.pc, s.halted, registers)
 }
 
 // Normalises limbs and writes them to a register, which keeps its bound.
@@ -170,13 +160,11 @@ pub fn normalize_register(s: State, reg: u8) -> Normalized
     if reg == 0 {
         return unneeded(s);
     }
-    let regs = s.regs;
-    let accumulated = s.accumulated;
-    if !registers::waits_at(&accumulated, reg) {
+    if !s.registers.waits_at(reg) {
         return unneeded(s);
     }
-    let low = registers::low_at(&regs, &accumulated, reg);
-    let high = registers::high_at(&regs, &accumulated, reg);
+    let low = s.registers.low_at(reg);
+    let high = s.registers.high_at(reg);
     normalize_and_write(s, reg, low, high)
 }
 
@@ -188,13 +176,11 @@ pub fn normalize_if_near_overflow(s: State, reg: u8) -> Normalized
     if 16 <= reg {
         return malformed(s);
     }
-    let regs = s.regs;
-    let accumulated = s.accumulated;
-    if !registers::waits_at(&accumulated, reg) {
+    if !s.registers.waits_at(reg) {
         return unneeded(s);
     }
-    let low = registers::low_at(&regs, &accumulated, reg);
-    let high = registers::high_at(&regs, &accumulated, reg);
+    let low = s.registers.low_at(reg);
+    let high = s.registers.high_at(reg);
     if !would_overflow(low, high) {
         return unneeded(s);
     }

@@ -1,4 +1,5 @@
 -- Numbers and opcodes, in any numbering of the fifty below 128 without repeats; document 01's is one.
+use Rattle.std.specs.Prelude.{None, Option, Some}
 use Prim.Native.Nat.{ℕ, zero, suc, ◌+◌, ◌-◌, ◌≤◌, ◌<◌}
 use native.Mathlib.Omega.{arith}
 use native.Mathlib.Nat.{not-suc-le-zero}
@@ -13,8 +14,6 @@ use Rattle.encoding.specs.Fields.{within}
 use Rattle.opcode.specs.Opcodes.{opcode_number, all, first_with, opcode_in}
 use Rattle.opcode.specs.declared.Opcode.{Opcode}
 use Rattle.opcode.specs.declared.Opcode.TheVariants as O
-use Rattle.opcode.specs.declared.Found.{Found}
-use Rattle.opcode.specs.declared.Found.TheVariants.{Op, Nothing}
 use Rattle.opcode.proofs.Arms.{everywhere}
 use Rattle.opcode.proofs.Variants.{place, all-at}
 
@@ -22,25 +21,25 @@ pub record Numbering (num : Opcode → ℕ) : Type 0 where
   pub distinct : (o p : Opcode) → num o ≡ num p → o ≡ p
   pub below : (o : Opcode) → num o < 128
 
-abbrev pub is_op : Found → Bool
-is_op (Op op) = true
-is_op Nothing = false
+abbrev pub is_op : Option Opcode → Bool
+is_op (Some op) = true
+is_op None = false
 
 module _ (num : Opcode → ℕ) where
   found_at : Numbering num → (os : List Opcode) (op : Opcode) (k : ℕ) → k < length os → get_or os k O.Add ≡ op
-      → first_with num os (num op) ≡ Op op
+      → first_with num os (num op) ≡ Some op
   unfolding first_with
   found_at N [] op k h e = absurd (not-suc-le-zero h)
-  found_at N (o ∷ os) op zero h e = rw (eq-eqb (num op) (num o) (ap num (sym e))) (ap Op e)
+  found_at N (o ∷ os) op zero h e = rw (eq-eqb (num op) (num o) (ap num (sym e))) (ap Some e)
   found_at N (o ∷ os) op (suc k) h e = by (eqb (num op) (num o)) refl (found_at N os op k (omega arith) e)
     where
-      by : (t : Bool) → eqb (num op) (num o) ≡ t → first_with num os (num op) ≡ Op op
-          → cond t (Op o) (first_with num os (num op)) ≡ Op op
-      by true q r = ap Op (sym (N.distinct op o (eqb-true _ _ q)))
+      by : (t : Bool) → eqb (num op) (num o) ≡ t → first_with num os (num op) ≡ Some op
+          → cond t (Some o) (first_with num os (num op)) ≡ Some op
+      by true q r = ap Some (sym (N.distinct op o (eqb-true _ _ q)))
       by false q r = r
 
   -- the opcode of an opcode's number is that opcode
-  pub found : Numbering num → (op : Opcode) → opcode_in num (num op) ≡ Op op
+  pub found : Numbering num → (op : Opcode) → opcode_in num (num op) ≡ Some op
   unfolding all
   found N op = found_at N all op (place op) (ltb-true _ _ (small op)) (all-at op)
     where
@@ -48,13 +47,13 @@ module _ (num : Opcode → ℕ) where
       small = everywhere all O.Add place all-at (λ (op : Opcode). ltb (place op) 50) (λ (op : Opcode). true) refl refl
 
   -- an opcode found for a number has that number, whatever the numbers are
-  pub number-found : (os : List Opcode) (n : ℕ) (op : Opcode) → first_with num os n ≡ Op op → num op ≡ n
+  pub number-found : (os : List Opcode) (n : ℕ) (op : Opcode) → first_with num os n ≡ Some op → num op ≡ n
   unfolding first_with
   number-found [] n op e = let z : ◌≡◌ {A = ℕ} 0 1 = cc in absurd (omega arith)
   number-found (o ∷ os) n op e = by (eqb n (num o)) refl (number-found os n op) e
     where
-      by : (t : Bool) → eqb n (num o) ≡ t → (first_with num os n ≡ Op op → num op ≡ n)
-          → cond t (Op o) (first_with num os n) ≡ Op op → num op ≡ n
+      by : (t : Bool) → eqb n (num o) ≡ t → (first_with num os n ≡ Some op → num op ≡ n)
+          → cond t (Some o) (first_with num os n) ≡ Some op → num op ≡ n
       by true q r e = let s : o ≡ op = cc in ap num (sym s) ∙ sym (eqb-true n (num o) q)
       by false q r e = r e
 
@@ -72,13 +71,13 @@ module _ (num : Opcode → ℕ) where
 
   -- and so it is the last one's, if it is one's at all
   pub last : (os : List Opcode) (o : Opcode) (n : ℕ) → Unlike (Unit {0}) os n → is_op (first_with num (os ++ (o ∷ [])) n) ≡ true
-      → Op o ≡ first_with num (os ++ (o ∷ [])) n
+      → Some o ≡ first_with num (os ++ (o ∷ [])) n
   unfolding first_with
   last os o n u e =
       let s = (late (Unit {0}) os (o ∷ []) n u).1 in
       by (eqb n (num o)) (ap is_op (sym s) ∙ e) ∙ sym s
     where
-      by : (t : Bool) → is_op (cond t (Op o) Nothing) ≡ true → Op o ≡ cond t (Op o) Nothing
+      by : (t : Bool) → is_op (cond t (Some o) None) ≡ true → Some o ≡ cond t (Some o) None
       by true e = refl
       by false e = let z : ◌≡◌ {A = ℕ} 0 1 = cc in absurd (omega arith)
 
@@ -118,23 +117,23 @@ valid n = by (opcode_in opcode_number n) refl
     small : (op : Opcode) → within 1 50 (opcode_number op) ≡ true
     small = everywhere all O.Add place all-at (λ (op : Opcode). within 1 50 (opcode_number op)) (λ (op : Opcode). true) refl refl
 
-    none-valid : opcode_in opcode_number n ≡ Nothing → (t u : Bool) → leb 1 n ≡ t → leb n 50 ≡ u → false ≡ t && u
+    none-valid : opcode_in opcode_number n ≡ None → (t u : Bool) → leb 1 n ≡ t → leb n 50 ≡ u → false ≡ t && u
     none-valid e true true p q =
         let o = number_at n (leb-true 1 n p) (leb-true n 50 q) in
         let f = found opcode_number opcode_number-numbers (get_or all (n - 1) O.Add) in
-        let g : Op (get_or all (n - 1) O.Add) ≡ Nothing = sym f ∙ ap (opcode_in opcode_number) o ∙ e in
+        let g : Some (get_or all (n - 1) O.Add) ≡ None = sym f ∙ ap (opcode_in opcode_number) o ∙ e in
         let z : ◌≡◌ {A = ℕ} 0 1 = cc in
         absurd (omega arith)
     none-valid e true false p q = refl
     none-valid e false u p q = refl
 
-    by : (o : Found) → opcode_in opcode_number n ≡ o → is_op o ≡ within 1 50 n
-    by (Op op) e = sym (small op) ∙ ap (within 1 50) (number-found opcode_number all n op e)
-    by Nothing e = none-valid e (leb 1 n) (leb n 50) refl refl
+    by : (o : Option Opcode) → opcode_in opcode_number n ≡ o → is_op o ≡ within 1 50 n
+    by (Some op) e = sym (small op) ∙ ap (within 1 50) (number-found opcode_number all n op e)
+    by None e = none-valid e (leb 1 n) (leb n 50) refl refl
 
-pub no-opcode : (n : ℕ) → within 1 50 n ≡ false → Nothing ≡ opcode_in opcode_number n
+pub no-opcode : (n : ℕ) → within 1 50 n ≡ false → None ≡ opcode_in opcode_number n
 no-opcode n e = by (opcode_in opcode_number n) (valid n ∙ e)
   where
-    by : (o : Found) → is_op o ≡ false → Nothing ≡ o
-    by (Op op) e = let z : ◌≡◌ {A = ℕ} 0 1 = cc in absurd (omega arith)
-    by Nothing e = refl
+    by : (o : Option Opcode) → is_op o ≡ false → None ≡ o
+    by (Some op) e = let z : ◌≡◌ {A = ℕ} 0 1 = cc in absurd (omega arith)
+    by None e = refl

@@ -1,11 +1,9 @@
 -- Document 01, "Words": the fifty opcodes in its order, with their numbers and the forms of their words.
-use Rattle.std.specs.Prelude.{ℕ, cond, List, [], ◌∷◌, eqb}
+use Rattle.std.specs.Prelude.{None, Option, Some, ℕ, cond, List, [], ◌∷◌, eqb}
 use Rattle.opcode.specs.declared.Opcode.{Opcode}
 use Rattle.opcode.specs.declared.Form.{Form}
-use Rattle.opcode.specs.declared.Found.{Found}
 use Rattle.opcode.specs.declared.Opcode.TheVariants as O
 use Rattle.opcode.specs.declared.Form.TheVariants.{R, I, Shift, S, B, J, Alone}
-use Rattle.opcode.specs.declared.Found.TheVariants.{Op, Nothing}
 
 -- "Opcodes run from 1 in the order of the match in execute.rs". A form is a kind of word, but that a shift amount has six bits
 -- (Shift) and Ecall and Ebreak have no operands (Alone)
@@ -83,9 +81,9 @@ all =
     O.Beq ∷ O.Bne ∷ O.Blt ∷ O.Bge ∷ O.Bltu ∷ O.Bgeu ∷ O.Jal ∷ O.Jalr ∷ O.Ecall ∷ O.Ebreak ∷ []
 
 -- the opcode that has a number, in a numbering of the fifty; document 01's is `opcode_number`
-unfoldable pub first_with : (Opcode → ℕ) → List Opcode → ℕ → Found
-first_with num [] n = Nothing
-first_with num (o ∷ os) n = cond (eqb n (num o)) (Op o) (first_with num os n)
+unfoldable pub first_with : (Opcode → ℕ) → List Opcode → ℕ → Option Opcode
+first_with num [] n = None
+first_with num (o ∷ os) n = cond (eqb n (num o)) (Some o) (first_with num os n)
 
-abbrev pub opcode_in : (Opcode → ℕ) → ℕ → Found
+abbrev pub opcode_in : (Opcode → ℕ) → ℕ → Option Opcode
 opcode_in num n = first_with num all n

@@ -72,13 +72,6 @@ pub enum Form {
     Alone,
 }
 
-// The opcode of a number.
-#[derive(Clone, Copy)]
-pub enum Found {
-    Op(Opcode),
-    Nothing,
-}
-
 pub fn opcode_number(op: Opcode) -> u8
     ensures { result ≡ opcode_number op }
 {
@@ -140,7 +133,7 @@ pub fn opcode_number(op: Opcode) -> u8
 #[tactic(auto, unfolding(crate::specs::Opcodes::first_with, crate::specs::Opcodes::all))]
 fn opcode_at(n: u8) -> Opcode
     requires { within 1 50 n ≡ true }
-    ensures { Found.Op result ≡ opcode_in opcode_number n }
+    ensures { Some result ≡ opcode_in opcode_number n }
 {
     match n {
         1 => Opcode::Add,
@@ -202,13 +195,13 @@ pub fn same(a: Opcode, b: Opcode) -> bool
     opcode_number(a) == opcode_number(b)
 }
 
-// One range test when compiled: the variants stand in the order of their numbers.
-pub fn opcode_of(n: u8) -> Found
+// The opcode of a number. One range test when compiled: the variants stand in the order of their numbers.
+pub fn opcode_of(n: u8) -> Option<Opcode>
     ensures { result ≡ opcode_in opcode_number n }
 {
     if (1 <= n) & (n <= 50) {
-        Found::Op(opcode_at(n))
+        Some(opcode_at(n))
     } else {
-        Found::Nothing
+        None
     }
 }

@@ -1,4 +1,5 @@
 -- The cases of the pending lists, from the tests that the code makes.
+use Rattle.std.specs.Prelude.{None, Some, Err, Ok}
 use Prim.Native.Nat.{ℕ, ◌+◌, ◌-◌, ◌<◌, ◌≤◌}
 use mathlib.Core.Path.{◌≡◌, refl, sym}
 use mathlib.Core.Bool.{Bool, true, false, cond, ◌&&◌}
@@ -8,10 +9,9 @@ use native.Mathlib.Omega.{arith}
 use lib.Dec.{leb, eqb}
 use borrow.Author.Tests.{lt-ltb, le-ltb, ltb-true, eqb-true, eq-eqb, ne_eqb, leb-true}
 use Rattle.refusal.specs.Stops.{refusal_of}
-use Rattle.pending.specs.Pending.{Lists, lists, Check, listing, lists_fit, room_at, room_of, lacks, appended, append_answer, append_lists, empty_answer, empty_lists, entry_at}
+use Rattle.pending.specs.declared.Check.{Check}
+use Rattle.pending.specs.Pending.{Lists, lists, entry, listing, lists_fit, room_at, room_of, lacks, appended, append_answer, append_lists, empty_answer, empty_lists, entry_at}
 use Rattle.pending.specs.declared.Room.TheVariants.{Unlent, Left}
-use Rattle.pending.specs.declared.Counted.TheVariants as N
-use Rattle.pending.specs.declared.Entry.TheVariants as E
 
 -- the room from the tests that the code makes
 pub no-list : (len count : ℕ) → len ≡ 0 → Unlent ≡ room_at len count
@@ -40,38 +40,38 @@ module _ (v b pc : ℕ) (l : Lists) where
   unfolding appended
   a-place h = rw (lt-ltb l.count (length l.values) h)
 
-  pub append-malformed : lists_fit l ≡ false → (N.Refused (refusal_of 9 0) ≡ append_answer v b pc l) × (append_lists v b pc l ≡ l)
+  pub append-malformed : lists_fit l ≡ false → (Err (refusal_of 9 0) ≡ append_answer v b pc l) × (append_lists v b pc l ≡ l)
   unfolding append_answer append_lists
   append-malformed e = rw e (refl, refl)
 
-  pub append-full : lists_fit l ≡ true → lacks (room_of l) 1 ≡ true → (N.Refused (refusal_of 8 pc) ≡ append_answer v b pc l) × (append_lists v b pc l ≡ l)
+  pub append-full : lists_fit l ≡ true → lacks (room_of l) 1 ≡ true → (Err (refusal_of 8 pc) ≡ append_answer v b pc l) × (append_lists v b pc l ≡ l)
   unfolding append_answer append_lists
   append-full e f = rw (e, f) (refl, sym (no_place (no_room (length l.values) l.count f)))
 
   pub append-done : lists_fit l ≡ true → lacks (room_of l) 1 ≡ false
-      → (N.Count (appended v b pc l).count ≡ append_answer v b pc l) × (append_lists v b pc l ≡ appended v b pc l)
+      → (Ok (appended v b pc l).count ≡ append_answer v b pc l) × (append_lists v b pc l ≡ appended v b pc l)
   unfolding append_answer append_lists
   append-done e f = rw (e, f) (refl, refl)
 
 module _ (l : Lists) where
-  pub empty-malformed : lists_fit l ≡ false → (N.Refused (refusal_of 9 0) ≡ empty_answer l) × (l ≡ empty_lists l)
+  pub empty-malformed : lists_fit l ≡ false → (Err (refusal_of 9 0) ≡ empty_answer l) × (l ≡ empty_lists l)
   unfolding empty_answer empty_lists
   empty-malformed e = rw e (refl, refl)
 
-  pub empty-done : lists_fit l ≡ true → (N.Count 0 ≡ empty_answer l) × (lists 0 l.values l.bounds l.pcs ≡ empty_lists l)
+  pub empty-done : lists_fit l ≡ true → (Ok 0 ≡ empty_answer l) × (lists 0 l.values l.bounds l.pcs ≡ empty_lists l)
   unfolding empty_answer empty_lists
   empty-done e = rw e (refl, refl)
 
 module _ (n : ℕ) (l : Lists) where
-  pub entry-malformed : lists_fit l ≡ false → E.Refused (refusal_of 9 0) ≡ entry_at n l
+  pub entry-malformed : lists_fit l ≡ false → Err (refusal_of 9 0) ≡ entry_at n l
   unfolding entry_at
   entry-malformed e = rw e
 
-  pub entry-beyond : lists_fit l ≡ true → l.count ≤ n → E.Nothing ≡ entry_at n l
+  pub entry-beyond : lists_fit l ≡ true → l.count ≤ n → Ok None ≡ entry_at n l
   unfolding entry_at
   entry-beyond e h = rw (e, le-ltb n l.count h)
 
-  pub entry-there : lists_fit l ≡ true → n < l.count → E.Check (get_or l.values n 0) (get_or l.bounds n 0) (get_or l.pcs n 0) ≡ entry_at n l
+  pub entry-there : lists_fit l ≡ true → n < l.count → Ok (Some (entry (get_or l.values n 0) (get_or l.bounds n 0) (get_or l.pcs n 0))) ≡ entry_at n l
   unfolding entry_at
   entry-there e h = rw (e, lt-ltb n l.count h)
 

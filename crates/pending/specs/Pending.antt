@@ -1,14 +1,11 @@
 -- Pending checks: three lists of numbers and a count. Empty lists mean that none is lent.
-use Rattle.std.specs.Prelude.{ℕ, ◌+◌, ◌-◌, Bool, false, cond, ◌&&◌, List, [], ◌∷◌, length, get_or, set, ltb, leb, eqb}
+use Rattle.refusal.specs.declared.Refusal.{Refusal}
+use Rattle.std.specs.Prelude.{None, Option, Some, option_to_list, Err, Ok, Result, ℕ, ◌+◌, ◌-◌, Bool, false, cond, ◌&&◌, List, [], ◌∷◌, length, get_or, set, ltb, leb, eqb}
 use Rattle.refusal.specs.Stops.{refusal_of}
-use Rattle.pending.specs.declared.Checks.{Checks}
-use Rattle.pending.specs.declared.Checks.TheVariants as C
+use Rattle.pending.specs.declared.Check.{Check}
 use Rattle.pending.specs.declared.Room.{Room}
 use Rattle.pending.specs.declared.Room.TheVariants.{Unlent, Left}
-use Rattle.pending.specs.declared.Counted.{Counted}
-use Rattle.pending.specs.declared.Counted.TheVariants as N
 use Rattle.pending.specs.declared.Entry.{Entry}
-use Rattle.pending.specs.declared.Entry.TheVariants as E
 
 pub record Lists : Type 0 where
   pub count : ℕ
@@ -50,39 +47,37 @@ appended v b pc l =
     l
 
 -- the checks that a step asks for, in their order
-pub record Check : Type 0 where
-  pub value : ℕ
-  pub bound : ℕ
-
 abbrev pub check : ℕ → ℕ → Check
 check v b = record { value = v; bound = b }
 
-abbrev pub checks_of : Checks → List Check
-checks_of C.Nothing = []
-checks_of (C.One b v) = check v b ∷ []
+abbrev pub checks_of : Option Check → List Check
+checks_of = option_to_list
 
 unfoldable pub listing : List Check → ℕ → Lists → Lists
 listing [] pc l = l
 listing (c ∷ cs) pc l = listing cs pc (appended c.value c.bound pc l)
 
 -- appending by itself: 9 for malformed lists, 8 where a list is lent and full
-unfoldable pub append_answer : ℕ → ℕ → ℕ → Lists → Counted
+unfoldable pub append_answer : ℕ → ℕ → ℕ → Lists → Result ℕ Refusal
 append_answer v b pc l =
-    cond (lists_fit l) (cond (lacks (room_of l) 1) (N.Refused (refusal_of 8 pc)) (N.Count (appended v b pc l).count)) (N.Refused (refusal_of 9 0))
+    cond (lists_fit l) (cond (lacks (room_of l) 1) (Err (refusal_of 8 pc)) (Ok (appended v b pc l).count)) (Err (refusal_of 9 0))
 
 unfoldable pub append_lists : ℕ → ℕ → ℕ → Lists → Lists
 append_lists v b pc l = cond (lists_fit l) (appended v b pc l) l
 
 -- "Emptying the list makes its room usable again"; the entries stay where they are. 9 for malformed lists
-unfoldable pub empty_answer : Lists → Counted
-empty_answer l = cond (lists_fit l) (N.Count 0) (N.Refused (refusal_of 9 0))
+unfoldable pub empty_answer : Lists → Result ℕ Refusal
+empty_answer l = cond (lists_fit l) (Ok 0) (Err (refusal_of 9 0))
 
 unfoldable pub empty_lists : Lists → Lists
 empty_lists l = cond (lists_fit l) (lists 0 l.values l.bounds l.pcs) l
 
+abbrev pub entry : ℕ → ℕ → ℕ → Entry
+entry v b pc = record { value = v; bound = b; pc = pc }
+
 -- the entry at a place below the count; 9 for malformed lists
-unfoldable pub entry_at : ℕ → Lists → Entry
+unfoldable pub entry_at : ℕ → Lists → Result (Option Entry) Refusal
 entry_at n l =
     cond (lists_fit l)
-    (cond (ltb n l.count) (E.Check (get_or l.values n 0) (get_or l.bounds n 0) (get_or l.pcs n 0)) E.Nothing)
-    (E.Refused (refusal_of 9 0))
+    (cond (ltb n l.count) (Ok (Some (entry (get_or l.values n 0) (get_or l.bounds n 0) (get_or l.pcs n 0)))) (Ok None))
+    (Err (refusal_of 9 0))

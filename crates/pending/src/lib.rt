@@ -6,12 +6,11 @@ ghost use Rattle.pending.specs.Pending.{lists, lengths_fit, room_at, lacks, chec
 
 use refusal::Refusal;
 
-// The checks that a step asks for. The bound comes first: LLVM would else store the last field and the mark of `Nothing` as one
-// byte at a place that is chosen, and so keep checks in memory.
+// A check that a step asks for.
 #[derive(Clone, Copy)]
-pub enum Checks {
-    Nothing,
-    One { bound: u8, value: u64 },
+pub struct Check {
+    pub bound: u8,
+    pub value: u64,
 }
 
 // How many checks more a list takes; any number where none is lent.
@@ -21,18 +20,12 @@ pub enum Room {
     Left(usize),
 }
 
-// How many checks are listed after a call, or its refusal.
+// A check that is listed.
 #[derive(Clone, Copy)]
-pub enum Counted {
-    Count(usize),
-    Refused(Refusal),
-}
-
-#[derive(Clone, Copy)]
-pub enum Entry {
-    Check { value: u64, bound: u8, pc: u64 },
-    Nothing,
-    Refused(Refusal),
+pub struct Entry {
+    pub value: u64,
+    pub bound: u8,
+    pub pc: u64,
 }
 
 // Whether the lists are of one length, and the count within it.
@@ -108,18 +101,18 @@ pub fn list(
     bounds: &mut [u8],
     pcs: &mut [u64],
     count: usize,
-    checks: Checks,
+    checks: Option<Check>,
     pc: u64,
 ) -> usize
     ensures { lists result values.new bounds.new pcs.new ≡ listing (checks_of checks) pc (lists count values.old bounds.old pcs.old) }
 {
     match checks {
-        Checks::Nothing => count,
-        Checks::One { bound, value } => note(values, bounds, pcs, count, value, bound, pc),
+        None => count,
+        Some(Check { bound, value }) => note(values, bounds, pcs, count, value, bound, pc),
     }
 }
 
-// Lists one check. Where no list is lent, none is listed and nothing refused.
+// Lists one check, and answers how many are listed then. Where no list is lent, none is listed and nothing refused.
 pub fn append(
     values: &mut [u64],
     bounds: &mut [u8],
@@ -128,26 +121,31 @@ pub fn append(
     value: u64,
     bound: u8,
     pc: u64,
-) -> Counted
+) -> Result<usize, Refusal>
     ensures { (result ≡ append_answer value bound pc (lists count values.old bounds.old pcs.old)) × (lists (append_lists value bound pc (lists count values.old bounds.old pcs.old)).count values.new bounds.new pcs.new ≡ append_lists value bound pc (lists count values.old bounds.old pcs.old)) }
 {
     if !lists_fit(values.len(), bounds.len(), pcs.len(), count) {
-        return Counted::Refused(Refusal::Malformed);
+        return Err(Refusal::Malformed);
     }
     if lacks(room_at(values.len(), count), 1) {
-        return Counted::Refused(Refusal::ListFull { pc });
+        return Err(Refusal::ListFull { pc });
     }
-    Counted::Count(note(values, bounds, pcs, count, value, bound, pc))
+    Ok(note(values, bounds, pcs, count, value, bound, pc))
 }
 
 // Empties the lists: the count is 0 then, and the entries stay.
-pub fn empty(values: &mut [u64], bounds: &mut [u8], pcs: &mut [u64], count: usize) -> Counted
+pub fn empty(
+    values: &mut [u64],
+    bounds: &mut [u8],
+    pcs: &mut [u64],
+    count: usize,
+) -> Result<usize, Refusal>
     ensures { (result ≡ empty_answer (lists count values.old bounds.old pcs.old)) × (lists (empty_lists (lists count values.old bounds.old pcs.old)).count values.new bounds.new pcs.new ≡ empty_lists (lists count values.old bounds.old pcs.old)) }
 {
     if !lists_fit(values.len(), bounds.len(), pcs.len(), count) {
-        return Counted::Refused(Refusal::Malformed);
+        return Err(Refusal::Malformed);
     }
-    Counted::Count(0)
+    Ok(0)
 }
 
 pub fn read<'a>(
@@ -156,18 +154,18 @@ pub fn read<'a>(
     pcs: &'a [u64],
     count: usize,
     at: usize,
-) -> Entry
+) -> Result<Option<Entry>, Refusal>
     ensures { result ≡ entry_at at (lists count values.now bounds.now pcs.now) }
 {
-    if !lists_fit(values.len(), bounds.len(), pcs.len(), count) {
-        return Entry::Refused(Refusal::Malformed);
+    if lists_fit(values.len(), bounds.len(), pcs.len(), count) {
+        if count <= at {
+            return Ok(None);
+        }
+        return Ok(Some(Entry {
+            value: values[at],
+            bound: bounds[at],
+            pc: pcs[at],
+        }));
     }
-    if count <= at {
-        return Entry::Nothing;
-    }
-    Entry::Check {
-        value: values[at],
-        bound: bounds[at],
-        pc: pcs[at],
-    }
+    Err(Refusal::Malformed)
 }

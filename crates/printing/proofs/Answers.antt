@@ -1,4 +1,6 @@
 -- What the call answers and leaves, by the room that the first pass found.
+use Rattle.std.specs.Prelude.{Err, Ok, Result}
+use Rattle.instruction.specs.declared.Instruction.{Instruction}
 use Prim.Native.Nat.{ℕ, ◌+◌, ◌-◌, ◌%◌, ◌≤◌}
 use mathlib.Core.List.{List, [], ◌∷◌, ◌++◌, append_assoc}
 use mathlib.Core.Path.{◌≡◌, refl, ◌∙◌}
@@ -12,8 +14,6 @@ use Rattle.refusal.specs.declared.Refusal.{Refusal}
 use Rattle.opcode.specs.Opcodes.{opcode_number}
 use Rattle.instruction.specs.Operands.{parts_of}
 use Rattle.words.specs.Words.{decode_in}
-use Rattle.words.specs.declared.Decoded.{Decoded}
-use Rattle.words.specs.declared.Decoded.TheVariants as D
 use Rattle.told.specs.Told.{done_told, refused_told}
 use Rattle.told.specs.declared.Told.{Told}
 use Rattle.printing.specs.declared.measure.Room.TheVariants as Room·
@@ -26,12 +26,12 @@ unfolding print_of printed_lines
 lines_are [] t e = cc
 lines_are (w ∷ ws) t e = by (decode_in opcode_number w) (print_of ws) (lines_are ws) e
   where
-    by : (d : Decoded) (rest : Printed) → ((s : List ℕ) → rest ≡ text s → printed_lines ws ≡ s) → printed_by d rest ≡ text t → and_lines (taken_of d) (printed_lines ws) ≡ t
-    by (D.Instruction i) (text s) more e =
+    by : (d : Result Instruction Refusal) (rest : Printed) → ((s : List ℕ) → rest ≡ text s → printed_lines ws ≡ s) → printed_by d rest ≡ text t → and_lines (taken_of d) (printed_lines ws) ≡ t
+    by (Ok i) (text s) more e =
         let is : print_line (parts_of i) ++ (10 ∷ s) ≡ t = cc in
         rw (more s refl, append_assoc) is
-    by (D.Instruction i) (undecodable r) more e = absurd (let z : ◌≡◌ {A = ℕ} 0 1 = cc in omega arith)
-    by (D.Refused r) rest more e = absurd (let z : ◌≡◌ {A = ℕ} 0 1 = cc in omega arith)
+    by (Ok i) (undecodable r) more e = absurd (let z : ◌≡◌ {A = ℕ} 0 1 = cc in omega arith)
+    by (Err r) rest more e = absurd (let z : ◌≡◌ {A = ℕ} 0 1 = cc in omega arith)
 
 module _ (words old : List ℕ) where
   abbrev Answered : Told → List ℕ → Type 0

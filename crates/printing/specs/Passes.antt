@@ -1,14 +1,12 @@
 -- Inner: the room that `measure` leaves, the lines that `put_lines` writes, and what each writer of a piece of text promises.
-use Rattle.std.specs.Prelude.{ℕ, zero, suc, ◌+◌, ◌-◌, ◌/◌, ◌%◌, ◌<◌, ◌≡◌, List, [], ◌∷◌, ◌++◌, length}
+use Rattle.instruction.specs.declared.Instruction.{Instruction}
+use Rattle.refusal.specs.declared.Refusal.{Refusal}
+use Rattle.std.specs.Prelude.{Err, Ok, Result, ℕ, zero, suc, ◌+◌, ◌-◌, ◌/◌, ◌%◌, ◌<◌, ◌≡◌, List, [], ◌∷◌, ◌++◌, length}
 use Rattle.std.proofs.lemmas.List.Edits.{sets}
 use Rattle.opcode.specs.Opcodes.{opcode_number}
 use Rattle.instruction.specs.Operands.{parts_of}
 use Rattle.instruction.specs.declared.Parts.{Parts}
 use Rattle.words.specs.Words.{decode_in}
-use Rattle.words.specs.declared.Decoded.{Decoded}
-use Rattle.words.specs.declared.Decoded.TheVariants as D
-use Rattle.words.specs.declared.Taken.{Taken}
-use Rattle.words.specs.declared.Taken.TheVariants as T
 use Rattle.names.specs.Names.{register_text}
 use Rattle.printing.specs.declared.measure.Room.{Room}
 use Rattle.printing.specs.declared.measure.Room.TheVariants as Room·
@@ -17,9 +15,9 @@ use Rattle.printing.specs.Print.{Printed, text, undecodable, print_line, words_i
 abbrev pub all_words : List ℕ → List ℕ
 all_words bs = words_in (length bs / 4) bs
 
-abbrev pub taken_of : Decoded → Taken
-taken_of (D.Instruction i) = T.Apart (parts_of i)
-taken_of (D.Refused r) = T.Refused r
+abbrev pub taken_of : Result Instruction Refusal → Result Parts Refusal
+taken_of (Ok i) = Ok (parts_of i)
+taken_of (Err r) = Err r
 
 -- what is left of a room, 0 if the text is longer
 abbrev pub room_after : Printed → ℕ → Room
@@ -40,9 +38,9 @@ abbrev pub fed : Parts → List ℕ
 fed p = print_line p ++ (10 ∷ [])
 
 -- the lines of words, up to the first that does not decode
-abbrev pub and_lines : Taken → List ℕ → List ℕ
-and_lines (T.Apart p) rest = fed p ++ rest
-and_lines (T.Refused r) rest = []
+abbrev pub and_lines : Result Parts Refusal → List ℕ → List ℕ
+and_lines (Ok p) rest = fed p ++ rest
+and_lines (Err r) rest = []
 
 unfoldable pub printed_lines : List ℕ → List ℕ
 printed_lines [] = []

@@ -1,6 +1,7 @@
 -- The print of a program: a line for each word, its instruction's name, a space, and its operands with a comma and a space
 -- between. "From the printer 4 or 5; then 9 if the output buffer is too small."
-use Rattle.std.specs.Prelude.{ℕ, zero, suc, ◌+◌, ◌-◌, ◌/◌, ◌%◌, ◌^◌, cond, List, [], ◌∷◌, ◌++◌, ltb, eqb, length, drop}
+use Rattle.instruction.specs.declared.Instruction.{Instruction}
+use Rattle.std.specs.Prelude.{Err, Ok, Result, ℕ, zero, suc, ◌+◌, ◌-◌, ◌/◌, ◌%◌, ◌^◌, cond, List, [], ◌∷◌, ◌++◌, ltb, eqb, length, drop}
 use Rattle.refusal.specs.Stops.{number_of, particular_of}
 use Rattle.refusal.specs.declared.Refusal.{Refusal}
 use Rattle.memory.specs.Bytes.{number_at}
@@ -10,8 +11,6 @@ use Rattle.opcode.specs.declared.Form.TheVariants.{R, I, Shift, S, B, J, Alone}
 use Rattle.instruction.specs.Operands.{parts_of}
 use Rattle.instruction.specs.declared.Parts.{Parts}
 use Rattle.words.specs.Words.{decode_in}
-use Rattle.words.specs.declared.Decoded.{Decoded}
-use Rattle.words.specs.declared.Decoded.TheVariants as D
 use Rattle.names.specs.Names.{name_of, register_text}
 use Rattle.told.specs.Told.{done_told, refused_told}
 use Rattle.told.specs.declared.Told.{Told}
@@ -54,9 +53,9 @@ abbrev pub and_line : List ℕ → Printed → Printed
 and_line line (text t) = text (line ++ (10 ∷ t))
 and_line line (undecodable r) = undecodable r
 
-abbrev pub printed_by : Decoded → Printed → Printed
-printed_by (D.Instruction i) rest = and_line (print_line (parts_of i)) rest
-printed_by (D.Refused r) rest = undecodable r
+abbrev pub printed_by : Result Instruction Refusal → Printed → Printed
+printed_by (Ok i) rest = and_line (print_line (parts_of i)) rest
+printed_by (Err r) rest = undecodable r
 
 unfoldable pub print_of : List ℕ → Printed
 print_of [] = text []

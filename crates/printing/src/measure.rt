@@ -6,7 +6,6 @@ ghost use Rattle.printing.specs.Passes.{all_words, room_after};
 use crate::lines::line_length;
 use crate::source::parts_at;
 use refusal::Refusal;
-use words::Taken;
 
 #[derive(Clone, Copy)]
 pub(crate) enum Room {
@@ -32,11 +31,11 @@ pub(crate) fn measure(words: &[u8], room: usize) -> Room
             return Room::Left(left);
         }
         match parts_at(words, at) {
-            Taken::Apart(p) => {
+            Ok(p) => {
                 left = less(left, line_length(p));
                 at += 4;
             }
-            Taken::Refused(r) => {
+            Err(r) => {
                 return Room::Refused(r);
             }
         }

@@ -5,9 +5,10 @@ ghost use Rattle.opcode.specs.Opcodes.{opcode_number};
 ghost use Rattle.words.specs.Words.{decode_in};
 ghost use Rattle.printing.specs.Passes.{taken_of};
 
-use instruction::parts_of;
+use instruction::{Parts, parts_of};
 use memory::bytes::number_at;
-use words::{Decoded, Taken, decode};
+use refusal::Refusal;
+use words::decode;
 
 fn word_at(words: &[u8], at: usize) -> u32
     requires { at + 4 ≤ length words.now }
@@ -17,12 +18,9 @@ fn word_at(words: &[u8], at: usize) -> u32
 }
 
 // Nothing else decodes: so the compiler joins the building of an instruction with its taking apart.
-pub(crate) fn parts_at(words: &[u8], at: usize) -> Taken
+pub(crate) fn parts_at(words: &[u8], at: usize) -> Result<Parts, Refusal>
     requires { at + 4 ≤ length words.now }
     ensures { result ≡ taken_of (decode_in opcode_number (number_at 4 words.now at)) }
 {
-    match decode(word_at(words, at)) {
-        Decoded::Instruction(i) => Taken::Apart(parts_of(i)),
-        Decoded::Refused(r) => Taken::Refused(r),
-    }
+    Ok(parts_of(decode(word_at(words, at))?))
 }

@@ -4,7 +4,6 @@ ghost use Rattle.printing.specs.Passes.{all_words, printed_lines, Put};
 
 use crate::lines::put_line;
 use crate::source::parts_at;
-use words::Taken;
 
 pub(crate) fn put_lines(words: &[u8], text: &mut [u8]) -> usize
     requires words_len { length words.now % 4 ≡ 0 }
@@ -18,11 +17,11 @@ pub(crate) fn put_lines(words: &[u8], text: &mut [u8]) -> usize
             return end;
         }
         match parts_at(words, at) {
-            Taken::Apart(p) => {
+            Ok(p) => {
                 end = put_line(text, end, p);
                 at += 4;
             }
-            Taken::Refused(_) => {
+            Err(_) => {
                 return end;
             }
         }

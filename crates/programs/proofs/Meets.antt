@@ -1,4 +1,6 @@
 -- What is met of one line, and what that leaves of the labels. Assumes nothing.
+use Rattle.std.specs.Prelude.{Option, None, Some}
+use Rattle.opcode.specs.declared.Opcode.{Opcode}
 use mathlib.Core.Path.{◌≡◌, refl, sym, ap, ◌∙◌, subst}
 use mathlib.Core.Bool.{Bool, true, false, cond, not}
 use mathlib.Core.List.{List, [], ◌∷◌}
@@ -16,9 +18,6 @@ use Rattle.labels.specs.Table.{slots_of, search_in}
 use Rattle.labels.specs.declared.table.Slot.{Slot}
 use Rattle.opcode.specs.Opcodes.{opcode_in, form_of}
 use Rattle.opcode.specs.declared.Form.{Form}
-use Rattle.opcode.specs.declared.Found.{Found}
-use Rattle.opcode.specs.declared.Found.TheVariants.{Op, Nothing}
-use mathlib.Core.Option.{Option, none, some}
 use Rattle.names.specs.Names.{name_key}
 use Rattle.lines.specs.Lines.{saying_of, named, wrong, kinds_of, word_for}
 use Rattle.lines.specs.Reader.{line_read, instruction_read, operands_read}
@@ -34,13 +33,13 @@ use Rattle.programs.specs.declared.noting.Met.{Met}
 use Rattle.programs.proofs.Notes.{text-letter, text-name, Counts, Noting, noting-blank, noting-other, noting-short, noting-full, noting-again, noting-new}
 
 -- ---- an instruction counts, right or wrong
-pub instruction-counts : (f : Found) (look : Form → List ℕ → Option ℤ) (u : List ℕ) → Counts (instruction_read f look u)
-instruction-counts (Op op) look u = go (word_for op (operands_read (kinds_of (form_of op)) (look (form_of op)) u))
+pub instruction-counts : (f : Option Opcode) (look : Form → List ℕ → Option ℤ) (u : List ℕ) → Counts (instruction_read f look u)
+instruction-counts (Some op) look u = go (word_for op (operands_read (kinds_of (form_of op)) (look (form_of op)) u))
   where
     go : (o : Option ℕ) → Counts (saying_of o)
-    go none = tt
-    go (some w) = tt
-instruction-counts Nothing look u = tt
+    go None = tt
+    go (Some w) = tt
+instruction-counts None look u = tt
 
 -- ---- what the labels are then
 module _ (text table : List ℕ) (at before : ℕ) (t : Tally) (g : Noting text table at before t.own t.count t.second) (r : Span) (spans : Spans text at r) where

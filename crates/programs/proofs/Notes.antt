@@ -1,8 +1,8 @@
 -- The pass that notes the labels of a text, line by line. Assumes nothing.
+use Rattle.std.specs.Prelude.{None, Option, Some}
 use mathlib.Core.Path.{◌≡◌, refl, sym, ap, ◌∙◌, subst}
 use mathlib.Core.Bool.{Bool, true, false, cond}
 use mathlib.Core.List.{List, [], ◌∷◌, ◌++◌, map, append_assoc, append-nil}
-use mathlib.Core.Option.{Option, none, some}
 use Prim.Native.Nat.{ℕ, ◌+◌, ◌-◌, ◌*◌, ◌/◌, ◌≤◌, ◌<◌}
 use native.Mathlib.Omega.{arith}
 use lib.Dec.{eqb}
@@ -81,35 +81,35 @@ by-counts wrong h a b c = refl
 
 -- ---- labels with one more
 abbrev or_else : Option ℕ → Option ℕ → Option ℕ
-or_else none b = b
-or_else (some i) b = some i
+or_else None b = b
+or_else (Some i) b = Some i
 
-index-more : (seen : List Label) (l : Label) (m : List ℕ) (o : Option ℕ) → index_of seen m ≡ o → index_of (seen ++ (l ∷ [])) m ≡ or_else o (cond (eq_bytes l.name m) (some l.index) none)
+index-more : (seen : List Label) (l : Label) (m : List ℕ) (o : Option ℕ) → index_of seen m ≡ o → index_of (seen ++ (l ∷ [])) m ≡ or_else o (cond (eq_bytes l.name m) (Some l.index) None)
 unfolding index_of
-index-more [] l m o e = ap (λ (x : Option ℕ). or_else x (cond (eq_bytes l.name m) (some l.index) none)) e
+index-more [] l m o e = ap (λ (x : Option ℕ). or_else x (cond (eq_bytes l.name m) (Some l.index) None)) e
 index-more (k ∷ seen) l m o e = go (eq_bytes k.name m) e (index-more seen l m)
   where
-    go : (c : Bool) → cond c (some k.index) (index_of seen m) ≡ o → ((o : Option ℕ) → index_of seen m ≡ o → index_of (seen ++ (l ∷ [])) m ≡ or_else o (cond (eq_bytes l.name m) (some l.index) none))
-        → cond c (some k.index) (index_of (seen ++ (l ∷ [])) m) ≡ or_else o (cond (eq_bytes l.name m) (some l.index) none)
-    go true e ih = ap (λ (x : Option ℕ). or_else x (cond (eq_bytes l.name m) (some l.index) none)) e
+    go : (c : Bool) → cond c (Some k.index) (index_of seen m) ≡ o → ((o : Option ℕ) → index_of seen m ≡ o → index_of (seen ++ (l ∷ [])) m ≡ or_else o (cond (eq_bytes l.name m) (Some l.index) None))
+        → cond c (Some k.index) (index_of (seen ++ (l ∷ [])) m) ≡ or_else o (cond (eq_bytes l.name m) (Some l.index) None)
+    go true e ih = ap (λ (x : Option ℕ). or_else x (cond (eq_bytes l.name m) (Some l.index) None)) e
     go false e ih = ih o e
 
 module _ (seen : List Label) (name : List ℕ) (own : ℕ) (m : List ℕ) where
-  index-new : index_of seen name ≡ none → cond (eq_bytes name m) (some own) (index_of seen m) ≡ index_of (seen ++ (label_at name own ∷ [])) m
+  index-new : index_of seen name ≡ None → cond (eq_bytes name m) (Some own) (index_of seen m) ≡ index_of (seen ++ (label_at name own ∷ [])) m
   index-new n = go (eq_bytes name m) (index_of seen m) refl refl
     where
-      go : (c : Bool) (o : Option ℕ) → eq_bytes name m ≡ c → index_of seen m ≡ o → cond c (some own) (index_of seen m) ≡ index_of (seen ++ (label_at name own ∷ [])) m
-      go c none ec eo = ap (cond c (some own)) eo ∙ sym (index-more seen (label_at name own) m none eo ∙ ap (λ (b : Bool). cond b (some own) none) ec)
-      go true (some i) ec eo = absurd (let e = sym n ∙ ap (index_of seen) (bytes-equal name m ec) ∙ eo in let z : ◌≡◌ {A = ℕ} 0 1 = cc in omega arith)
-      go false (some i) ec eo = eo ∙ sym (index-more seen (label_at name own) m (some i) eo)
+      go : (c : Bool) (o : Option ℕ) → eq_bytes name m ≡ c → index_of seen m ≡ o → cond c (Some own) (index_of seen m) ≡ index_of (seen ++ (label_at name own ∷ [])) m
+      go c None ec eo = ap (cond c (Some own)) eo ∙ sym (index-more seen (label_at name own) m None eo ∙ ap (λ (b : Bool). cond b (Some own) None) ec)
+      go true (Some i) ec eo = absurd (let e = sym n ∙ ap (index_of seen) (bytes-equal name m ec) ∙ eo in let z : ◌≡◌ {A = ℕ} 0 1 = cc in omega arith)
+      go false (Some i) ec eo = eo ∙ sym (index-more seen (label_at name own) m (Some i) eo)
 
-  index-again : (i : ℕ) → index_of seen name ≡ some i → index_of seen m ≡ index_of (seen ++ (label_at name own ∷ [])) m
+  index-again : (i : ℕ) → index_of seen name ≡ Some i → index_of seen m ≡ index_of (seen ++ (label_at name own ∷ [])) m
   index-again i n = go (eq_bytes name m) (index_of seen m) refl refl
     where
       go : (c : Bool) (o : Option ℕ) → eq_bytes name m ≡ c → index_of seen m ≡ o → index_of seen m ≡ index_of (seen ++ (label_at name own ∷ [])) m
-      go c (some j) ec eo = eo ∙ sym (index-more seen (label_at name own) m (some j) eo)
-      go true none ec eo = absurd (let e = sym n ∙ ap (index_of seen) (bytes-equal name m ec) ∙ eo in let z : ◌≡◌ {A = ℕ} 0 1 = cc in omega arith)
-      go false none ec eo = eo ∙ sym (index-more seen (label_at name own) m none eo ∙ ap (λ (b : Bool). cond b (some own) none) ec)
+      go c (Some j) ec eo = eo ∙ sym (index-more seen (label_at name own) m (Some j) eo)
+      go true None ec eo = absurd (let e = sym n ∙ ap (index_of seen) (bytes-equal name m ec) ∙ eo in let z : ◌≡◌ {A = ℕ} 0 1 = cc in omega arith)
+      go false None ec eo = eo ∙ sym (index-more seen (label_at name own) m None eo ∙ ap (λ (b : Bool). cond b (Some own) None) ec)
 
 -- ---- what the pass keeps: the labels seen, and what is still to do gives the whole
 pub record Noting (text table : List ℕ) (at before own count second : ℕ) : Type 0 where
@@ -125,7 +125,7 @@ unfolding index_of
 noting-none text table z = record {
   seen = [];
   split = refl;
-  tabled = subst (λ (t : List ℕ). Tabled text t (λ _. none) 0) (sym z) (tabled-none text (length table));
+  tabled = subst (λ (t : List ℕ). Tabled text t (λ _. None) 0) (sym z) (tabled-none text (length table));
   counted = refl;
   room = omega arith;
   again = refl;
@@ -228,7 +228,7 @@ module _ (text table : List ℕ) (at before own count second : ℕ) (g : Noting 
             ∙ go (eqb second 0) refl;
       }
         where
-          held : (i : ℕ) × (index_of g.seen name ≡ some i)
+          held : (i : ℕ) × (index_of g.seen name ≡ Some i)
           held = tabled-held text table (index_of g.seen) (length g.seen) g.tabled name h f
 
           go : (c : Bool) → eqb second 0 ≡ c → cond c (before + 1) second ≡ cond (eqb (cond c (before + 1) second) 0) (second_from (tellers_of (drop r.next text)) (before + 1 + 1) own now-seen) (cond c (before + 1) second)
@@ -243,7 +243,7 @@ module _ (text table : List ℕ) (at before own count second : ℕ) (g : Noting 
         split = split-named;
         tabled = record {
           findable = new.findable;
-          gives = λ m. new.gives m ∙ ap (λ (q : List ℕ). cond (eq_bytes q m) (some own) (index_of g.seen m)) n ∙ index-new g.seen name own m free;
+          gives = λ m. new.gives m ∙ ap (λ (q : List ℕ). cond (eq_bytes q m) (Some own) (index_of g.seen m)) n ∙ index-new g.seen name own m free;
           used = let u = new.used in omega (arith, one_more);
         };
         counted = let c = g.counted in omega (arith, one_more);
@@ -251,8 +251,8 @@ module _ (text table : List ℕ) (at before own count second : ℕ) (g : Noting 
         again = again_by (named name) e ∙ ap (λ (o : Option ℕ). cond (eqb second 0) (unless_seen o (second_from rest (before + 1 + 1) own now-seen) (before + 1)) second) free;
       }
         where
-          new : Tabled text (with_label (Slot.Free j) table p (key_of (name_at text p)) own) (λ m. cond (eq_bytes (name_at text p) m) (some own) (index_of g.seen m)) (length g.seen + 1)
+          new : Tabled text (with_label (Slot.Free j) table p (key_of (name_at text p)) own) (λ m. cond (eq_bytes (name_at text p) m) (Some own) (index_of g.seen m)) (length g.seen + 1)
           new = tabled-new text table (index_of g.seen) (length g.seen) p own j g.tabled l f
 
-          free : index_of g.seen name ≡ none
+          free : index_of g.seen name ≡ None
           free = ap (index_of g.seen) (sym n) ∙ tabled-free text table (index_of g.seen) (length g.seen) g.tabled (name_at text p) j f

@@ -1,8 +1,8 @@
 -- What the passes find is what the definitions say, where the table gives the labels of the text. Assumes nothing.
+use Rattle.std.specs.Prelude.{None, Option, Some}
 use mathlib.Core.Path.{◌≡◌, refl, sym, ap, ◌∙◌, fun_ext}
 use mathlib.Core.Bool.{Bool, false, cond}
 use mathlib.Core.List.{List, [], ◌∷◌, ◌++◌, map}
-use mathlib.Core.Option.{Option, none, some}
 use mathlib.Core.Logic.{◌⊎◌, inl, inr}
 use Prim.Native.Nat.{ℕ, ◌+◌, ◌≤◌, ◌<◌}
 use native.Mathlib.Omega.{arith}
@@ -57,8 +57,8 @@ second-later (t ∷ ts) line own seen = go (t no_labels) (second-later ts (line 
       where
         by : (o : Option ℕ) → ((own : ℕ) (seen : List Label) → (second_from ts (line + 1) own seen ≡ 0) ⊎ (line + 1 ≤ second_from ts (line + 1) own seen))
             → (unless_seen o (second_from ts (line + 1) own (seen ++ (label_at name own ∷ []))) line ≡ 0) ⊎ (line ≤ unless_seen o (second_from ts (line + 1) own (seen ++ (label_at name own ∷ []))) line)
-        by none ih = weaker _ (ih own (seen ++ (label_at name own ∷ [])))
-        by (some i) ih = inr (omega arith)
+        by None ih = weaker _ (ih own (seen ++ (label_at name own ∷ [])))
+        by (Some i) ih = inr (omega arith)
     go (word w) ih = weaker _ (ih (own + 1) seen)
     go wrong ih = weaker _ (ih (own + 1) seen)
 
@@ -95,10 +95,10 @@ module _ (text table : List ℕ) (labels : List Label) (looks : (own : ℕ) → 
         go : (o : Option ℕ) → second ≡ unless_seen o (second_from (map reader ts) (line + 1) own (seen ++ (label_at name own ∷ []))) line
             → on_step (cond (eqb line second) Step.Bad (Step.Go own)) (λ o. check_from text table second ts (line + 1) o) (Checked.Bad line)
             ≡ count own (unless o (assemble_from (map reader ts) labels (line + 1) own (seen ++ (label_at name own ∷ []))) (refused line))
-        go none e =
+        go None e =
             ap (λ (b : Bool). on_step (cond b Step.Bad (Step.Go own)) (λ o. check_from text table second ts (line + 1) o) (Checked.Bad line)) (not-second (map reader ts) line own second (seen ++ (label_at name own ∷ [])) h e)
             ∙ ih (line + 1) own (seen ++ (label_at name own ∷ [])) (omega arith) e
-        go (some i) e = ap (λ (b : Bool). on_step (cond b Step.Bad (Step.Go own)) (λ o. check_from text table second ts (line + 1) o) (Checked.Bad line)) (eq-eqb line second (sym e))
+        go (Some i) e = ap (λ (b : Bool). on_step (cond b Step.Bad (Step.Go own)) (λ o. check_from text table second ts (line + 1) o) (Checked.Bad line)) (eq-eqb line second (sym e))
 
     counts : (x : Saying) → Counts x → second ≡ second_from (map reader ts) (line + 1) (own + 1) seen → Checks x ≡ count own (Makes x)
     unfolding Pass Checks Makes count
@@ -154,8 +154,8 @@ module _ (text table : List ℕ) (labels : List Label) (looks : (own : ℕ) → 
       go (named name) e ih = by (index_of seen name) e
         where
           by : (o : Option ℕ) → unless o (assemble_from (map reader ts) labels (line + 1) own (seen ++ (label_at name own ∷ []))) (refused line) ≡ made ws → words_from text table ts own ≡ ws
-          by none e = ih own (seen ++ (label_at name own ∷ [])) ws e
-          by (some i) e = absurd (let z : ◌≡◌ {A = ℕ} 0 1 = cc in omega arith)
+          by None e = ih own (seen ++ (label_at name own ∷ [])) ws e
+          by (Some i) e = absurd (let z : ◌≡◌ {A = ℕ} 0 1 = cc in omega arith)
       go (word w) e ih = by (assemble_from (map reader ts) labels (line + 1) (own + 1) seen) refl e
         where
           by : (o : Assembly) → assemble_from (map reader ts) labels (line + 1) (own + 1) seen ≡ o → and_word w o ≡ made ws → w ∷ words_from text table ts (own + 1) ≡ ws

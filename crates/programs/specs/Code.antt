@@ -1,6 +1,5 @@
 -- Inner: what the passes over a text find, line by line, as the code does: it reads each line.
-use Rattle.std.specs.Prelude.{ℕ, ◌+◌, ◌-◌, ◌*◌, ◌<◌, ◌≤◌, Bool, true, false, cond, not, List, [], ◌∷◌, ◌++◌, map, ◌≡◌, eqb, leb, length, get_or, take, drop}
-use Rattle.std.proofs.Math.Option.{Option, none, some}
+use Rattle.std.specs.Prelude.{None, Option, Some, ℕ, ◌+◌, ◌-◌, ◌*◌, ◌<◌, ◌≤◌, Bool, true, false, cond, not, List, [], ◌∷◌, ◌++◌, map, ◌≡◌, eqb, leb, length, get_or, take, drop}
 use Rattle.labels.specs.Bytes.{key_of}
 use Rattle.labels.specs.Reading.{name_at}
 use Rattle.labels.specs.Table.{slots_of, search_in, index_in, with_label}
@@ -46,8 +45,8 @@ pub record Spans (s : List ℕ) (at : ℕ) (r : Span) : Type 0 where
 
 -- ---- labels: the number of the first line that defines one again, or 0; `own` instructions and the labels `seen` stand before a line
 abbrev pub unless_seen : Option ℕ → ℕ → ℕ → ℕ
-unless_seen none a b = a
-unless_seen (some i) a b = b
+unless_seen None a b = a
+unless_seen (Some i) a b = b
 
 unfoldable pub second_from : List Teller → ℕ → ℕ → List Label → ℕ
 second_from [] line own seen = 0

@@ -1,6 +1,5 @@
 -- A program's text, line by line, and the words that it stands for.
-use Rattle.std.specs.Prelude.{ℕ, ◌+◌, cond, ◌&&◌, List, [], ◌∷◌, ◌++◌, ◌≡◌, eqb, ℤ}
-use Rattle.std.proofs.Math.Option.{Option, none, some}
+use Rattle.std.specs.Prelude.{None, Option, Some, ℕ, ◌+◌, cond, ◌&&◌, List, [], ◌∷◌, ◌++◌, ◌≡◌, eqb, ℤ}
 use Rattle.opcode.specs.declared.Form.{Form}
 use Rattle.labels.specs.Bytes.{eq_bytes, head_of}
 use Rattle.sums.specs.Sums.{distance}
@@ -34,7 +33,7 @@ pub record Label : Type 0 where
   pub index : ℕ
 
 abbrev pub no_labels : Form → List ℕ → Option ℤ
-no_labels f name = none
+no_labels f name = None
 
 abbrev pub on_saying : {A : Type 0} → Saying → A → (List ℕ → A) → (ℕ → A) → A → A
 on_saying empty a b c d = a
@@ -52,8 +51,8 @@ labels_from (t ∷ ts) n =
 
 -- the first label that has a name
 unfoldable pub index_of : List Label → List ℕ → Option ℕ
-index_of [] name = none
-index_of (l ∷ ls) name = cond (eq_bytes l.name name) (some l.index) (index_of ls name)
+index_of [] name = None
+index_of (l ∷ ls) name = cond (eq_bytes l.name name) (Some l.index) (index_of ls name)
 
 abbrev pub look_at : List Label → ℕ → Form → List ℕ → Option ℤ
 look_at labels own f name = distance (base_of f own) (index_of labels name)
@@ -68,8 +67,8 @@ and_word w (refused n) = refused n
 and_word w (made ws) = made (w ∷ ws)
 
 abbrev pub unless : Option ℕ → Assembly → Assembly → Assembly
-unless none a b = a
-unless (some i) a b = b
+unless None a b = a
+unless (Some i) a b = b
 
 -- from a line on: `own` instructions stand before it, and the labels `seen`
 unfoldable pub assemble_from : List Teller → List Label → ℕ → ℕ → List Label → Assembly

@@ -68,7 +68,7 @@ use Rattle.checkpoint.proofs as checkpoint
 use Rattle.checkpoint.specs.contracts as checkpoint_says
 use Rattle.checkpoint.proofs.Laws.{reads-one}
 use Rattle.checkpoint.specs.Calls.{Wrote}
-use Rattle.state.specs.Registers.{Registers}
+use Rattle.state.specs.declared.registers.Registers.{Registers}
 use Rattle.deferred.specs.Limbs.{Limbed}
 use Rattle.execute.specs.World.{Stepped}
 use Rattle.pending.specs.Pending.{Lists}
@@ -350,11 +350,11 @@ pub words·encoder·encode-parts : Determined words_says.encoder.encode_parts.en
 words·encoder·encode-parts κs a x y = one (λ r. r & x.1)
 
 -- ---- state
-pub state·formed·well-formed : Determined state_says.formed.well_formed.ended state.formed.well_formed.Reads.Learnt
-state·formed·well-formed κs a x y = one (λ r. r & x.1)
+pub state·registers·Registers·well-formed : Determined state_says.registers.Registers.well_formed.ended state.registers.Registers.well_formed.Reads.Learnt
+state·registers·Registers·well-formed κs a x y = one (λ r. r & x.1)
 
-pub state·formed·all-whole : Determined state_says.formed.all_whole.ended state.formed.all_whole.Reads.Learnt
-state·formed·all-whole κs a x y = one (λ r. r & x.1)
+pub state·registers·Registers·all-whole : Determined state_says.registers.Registers.all_whole.ended state.registers.Registers.all_whole.Reads.Learnt
+state·registers·Registers·all-whole κs a x y = one (λ r. r & x.1)
 
 pub state·together : Determined state_says.together.ended state.together.Reads.Learnt
 state·together κs a x y = one (λ r. r & x.1)
@@ -362,29 +362,29 @@ state·together κs a x y = one (λ r. r & x.1)
 pub state·fresh : Determined state_says.fresh.ended state.fresh.Reads.Learnt
 state·fresh κs a x y = one (λ r. r & x.1)
 
-pub state·registers·value-at : Determined state_says.registers.value_at.ended state.registers.value_at.Reads.Learnt
-state·registers·value-at κs a x y = one (λ r. r & x.1)
+pub state·registers·Registers·value-at : Determined state_says.registers.Registers.value_at.ended state.registers.Registers.value_at.Reads.Learnt
+state·registers·Registers·value-at κs a x y = one (λ r. r & x.1)
 
-pub state·registers·low-at : Determined state_says.registers.low_at.ended state.registers.low_at.Reads.Learnt
-state·registers·low-at κs a x y = λ p q. one (λ r. r & x.1) p.0 q.0
+pub state·registers·Registers·low-at : Determined state_says.registers.Registers.low_at.ended state.registers.Registers.low_at.Reads.Learnt
+state·registers·Registers·low-at κs a x y = λ p q. one (λ r. r & x.1) p.0 q.0
 
-pub state·registers·high-at : Determined state_says.registers.high_at.ended state.registers.high_at.Reads.Learnt
-state·registers·high-at κs a x y = λ p q. one (λ r. r & x.1) p.0 q.0
+pub state·registers·Registers·high-at : Determined state_says.registers.Registers.high_at.ended state.registers.Registers.high_at.Reads.Learnt
+state·registers·Registers·high-at κs a x y = λ p q. one (λ r. r & x.1) p.0 q.0
 
-pub state·registers·bound-at : Determined state_says.registers.bound_at.ended state.registers.bound_at.Reads.Learnt
-state·registers·bound-at κs a x y = one (λ r. r & x.1)
+pub state·registers·Registers·bound-at : Determined state_says.registers.Registers.bound_at.ended state.registers.Registers.bound_at.Reads.Learnt
+state·registers·Registers·bound-at κs a x y = one (λ r. r & x.1)
 
-pub state·registers·waits-at : Determined state_says.registers.waits_at.ended state.registers.waits_at.Reads.Learnt
-state·registers·waits-at κs a x y = one (λ r. r & x.1)
+pub state·registers·Registers·waits-at : Determined state_says.registers.Registers.waits_at.ended state.registers.Registers.waits_at.Reads.Learnt
+state·registers·Registers·waits-at κs a x y = one (λ r. r & x.1)
 
-pub state·registers·write : Determined state_says.registers.write.ended state.registers.write.Reads.Learnt
-state·registers·write κs a x y = one (λ (R : Registers). tt & R.values & R.accumulated & R.bounds & x.1.1.1.1)
+pub state·registers·Registers·write : Determined state_says.registers.Registers.write.ended state.registers.Registers.write.Reads.Learnt
+state·registers·Registers·write κs a x y = one (λ (R : Registers). tt & R & x.1.1)
 
-pub state·registers·normalise : Determined state_says.registers.normalise.ended state.registers.normalise.Reads.Learnt
-state·registers·normalise κs a x y = λ p q. one (λ (R : Registers). tt & R.values & R.accumulated & x.1.1.1) (p []) (q [])
+pub state·registers·Registers·normalise : Determined state_says.registers.Registers.normalise.ended state.registers.Registers.normalise.Reads.Learnt
+state·registers·Registers·normalise κs a x y = one (λ (R : Registers). tt & R & x.1.1)
 
-pub state·registers·normalise-all : Determined state_says.registers.normalise_all.ended state.registers.normalise_all.Reads.Learnt
-state·registers·normalise-all κs a x y = λ p q. one (λ (R : Registers). tt & R.values & R.accumulated & x.1.1.1) (p []) (q [])
+pub state·registers·Registers·normalise-all : Determined state_says.registers.Registers.normalise_all.ended state.registers.Registers.normalise_all.Reads.Learnt
+state·registers·Registers·normalise-all κs a x y = one (λ (R : Registers). tt & R & x.1.1)
 
 -- ---- normalize
 pub normalize·has-carries : Determined normalize_says.has_carries.ended normalize.has_carries.Reads.Learnt
@@ -429,23 +429,23 @@ pub effect·branch·taken : Determined effect_says.branch.taken.ended effect.bra
 effect·branch·taken κs a x y = one (λ r. r & x.1)
 
 pub effect·immediate·decide : Determined effect_says.immediate.decide.ended effect.immediate.decide.Reads.Learnt
-effect·immediate·decide κs a x y = λ p q. ap (λ (r : Turn). r & x.1) (one-turn a.0 a.1.0 a.1.1.0.now _ _ p q)
+effect·immediate·decide κs a x y = λ p q. ap (λ (r : Result Turn Refusal). r & x.1) (one-turn a.0 a.1.0 a.1.1.0.now _ _ p q)
 
 pub effect·immediate·shift : Determined effect_says.immediate.shift.ended effect.immediate.shift.Reads.Learnt
 effect·immediate·shift κs a x y = λ p q. ap (λ (r : Turn). r & x.1) (one_shift a.0 a.1.0 _ _ p q)
 
 pub effect·registers·decide : Determined effect_says.registers.decide.ended effect.registers.decide.Reads.Learnt
-effect·registers·decide κs a x y = λ p q. ap (λ (r : Deed). r & x.1) (one-deed a.0 a.1.0 _ _ p q)
+effect·registers·decide κs a x y = λ p q. ap (λ (r : Result Deed Refusal). r & x.1) (one-deed a.0 a.1.0 _ _ p q)
 
 pub effect·store·store-size : Determined effect_says.store.store_size.ended effect.store.store_size.Reads.Learnt
 effect·store·store-size κs a x y = one (λ r. r & x.1)
 
 -- ---- deferred
 pub deferred·limbs-of-registers : Determined deferred_says.limbs_of_registers.ended deferred.limbs_of_registers.Reads.Learnt
-deferred·limbs-of-registers κs a x y = one (λ (l : Limbed). l.waits & tt & l.registers.values & l.registers.accumulated & l.registers.bounds & tt)
+deferred·limbs-of-registers κs a x y = one (λ (l : Limbed). l.waits & tt & l.registers & tt)
 
 pub deferred·limbs-of-immediate : Determined deferred_says.limbs_of_immediate.ended deferred.limbs_of_immediate.Reads.Learnt
-deferred·limbs-of-immediate κs a x y = one (λ (l : Limbed). l.waits & tt & l.registers.values & l.registers.accumulated & l.registers.bounds & tt)
+deferred·limbs-of-immediate κs a x y = one (λ (l : Limbed). l.waits & tt & l.registers & tt)
 
 -- ---- execute
 pub execute·refuse : Determined execute_says.refuse.ended execute.refuse.Reads.Learnt
@@ -457,7 +457,7 @@ execute·admits κs a x y = one (λ r. r & x.1)
 pub execute·word·obey : Determined execute_says.word.obey.ended execute.word.obey.Reads.Learnt
 execute·word·obey κs a x y =
     asked (λ (s : Stepped). s.checks) x.0.checks y.0.checks
-    (λ (s : Stepped) k. let R = s.world.registers in advance_of s k & tt & tt & R.values & R.accumulated & R.bounds & s.world.memory & tt)
+    (λ (s : Stepped) k. advance_of s k & tt & tt & s.world.registers & s.world.memory & tt)
     refl refl
 
 -- ---- given

@@ -6,16 +6,17 @@ use Rattle.step.specs.Step.{Left}
 use Rattle.run.specs.Run.{Answer}
 use Rattle.step.specs.Leg.{Leg}
 use Rattle.step.specs.declared.leg.Gone.{Gone}
-use Rattle.pending.specs.declared.Checks.{Checks}
+use Rattle.std.specs.Prelude.{Option}
+use Rattle.pending.specs.declared.Check.{Check}
 use Rattle.step.specs.declared.OneStep.{OneStep}
 use Rattle.run.specs.declared.Ran.{Ran}
 use Rattle.host.specs.Call.{state_of}
 use Rattle.lent.specs.declared.InPlace.{InPlace}
 
-abbrev pub advance_of : Stepped → Checks → Advance
+abbrev pub advance_of : Stepped → Option Check → Advance
 advance_of s cs = record { went = s.went; pc = s.world.pc; halted = s.world.halted; checks = cs }
 
-abbrev pub executed_of : Stepped → Checks → Executed
+abbrev pub executed_of : Stepped → Option Check → Executed
 executed_of s cs = record { went = s.went; checks = cs; state = state_of s.world }
 
 abbrev pub one_step_of : Left → OneStep
@@ -24,7 +25,7 @@ one_step_of l = record { went = l.went; count = l.lists.count; state = state_of 
 abbrev pub ran_of : Answer → Ran
 ran_of a = record { stop = a.stop; steps = a.steps; count = a.lists.count; state = state_of a.world }
 
-abbrev pub gone_of : Leg → Checks → Gone
+abbrev pub gone_of : Leg → Option Check → Gone
 gone_of l cs = record { went = l.went; steps = l.steps; checks = cs; pc = l.pc; state = state_of l.world }
 
 abbrev pub outcome_of : Left → InPlace

@@ -1,5 +1,6 @@
 -- Document 01's corners P1 to P12 as one list under one statement: what a definition gives, beside what the document says.
-use Rattle.std.specs.Prelude.{ℕ, ◌-◌, ◌^◌, ◌≡◌, false, ℤ, pos, negsuc, get_or}
+use Rattle.refusal.specs.declared.Refusal.{Refusal}
+use Rattle.std.specs.Prelude.{Err, Ok, Result, ℕ, ◌-◌, ◌^◌, ◌≡◌, false, ℤ, pos, negsuc, get_or}
 use mathlib.Core.List.{List, [], ◌∷◌, replicate}
 use Rattle.encoding.specs.Fields.{signed_of}
 use Rattle.opcode.specs.Opcodes.{opcode_number}
@@ -9,8 +10,6 @@ use Rattle.instruction.specs.declared.Instruction.TheVariants as N
 use Rattle.instruction.specs.declared.Division.TheVariants.{Div, Rem}
 use Rattle.instruction.specs.declared.Operation.TheVariants.{Mulh, Sll, Sra, Seq, Sltu}
 use Rattle.instruction.specs.declared.StoreKind.TheVariants.{Sw}
-use Rattle.words.specs.declared.Encoded.{Encoded}
-use Rattle.words.specs.declared.Encoded.TheVariants as E
 use Rattle.state.specs.Held.{value_of}
 use Rattle.state.specs.Registers.{registers, holds}
 use Rattle.state.specs.Formed.{fresh_at}
@@ -32,9 +31,9 @@ All (number a b ∷ cs) = (a ≡ b) × All cs
 All (integer a b ∷ cs) = (a ≡ b) × All cs
 
 -- the word of an instruction, or 2^32, which is none
-abbrev pub word_in : Encoded → ℕ
-word_in (E.Word w) = w
-word_in (E.Refused r) = 2 ^ 32
+abbrev pub word_in : Result ℕ Refusal → ℕ
+word_in (Ok w) = w
+word_in (Err r) = 2 ^ 32
 
 abbrev pub word : Instruction → ℕ
 word i = word_in (encode_in opcode_number i)

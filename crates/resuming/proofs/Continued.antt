@@ -14,7 +14,7 @@ use Rattle.refusal.specs.declared.Stop.{Stop}
 use Rattle.refusal.specs.declared.Stop.TheVariants as S
 use Rattle.memory.specs.Bytes.{number_of_bytes, bytes}
 use Rattle.memory.proofs.Numbers.{Small, number-bytes, bytes-number}
-use Rattle.state.specs.Formed.{well_formed, registers_of}
+use Rattle.state.specs.Formed.{well_formed}
 use Rattle.pending.specs.Pending.{Lists, no_lists}
 use Rattle.execute.specs.World.{World, world_of}
 use Rattle.execute.specs.Execute.{admits}
@@ -105,10 +105,10 @@ module _ (st m an : List ℕ) (mode fuel : ℕ) (small : AreBytes st) (low : Are
   abbrev left : World
   left = answered.world
 
-  tests : (leb mode 1 ≡ true) × (admits (mode_of mode) (registers_of (state_in st)) ≡ true)
+  tests : (leb mode 1 ≡ true) × (admits (mode_of mode) (state_in st).registers ≡ true)
   unfolding call_taken
   tests =
-      let two = both_true (eqb (length an) ANSWER_BYTES && leb mode 1 && well_laid st) (admits (mode_of mode) (registers_of (state_in st))) taken in
+      let two = both_true (eqb (length an) ANSWER_BYTES && leb mode 1 && well_laid st) (admits (mode_of mode) (state_in st).registers) taken in
       let first = both_true (eqb (length an) ANSWER_BYTES && leb mode 1) (well_laid st) two.0 in
       ((both_true (eqb (length an) ANSWER_BYTES) (leb mode 1) first.0).1, two.1)
 

@@ -70,5 +70,5 @@ HostCallsResume =
 abbrev pub ImagesAgree : Type 0
 ImagesAgree =
     (image room spare room' spare' s m s' m' an : List ℕ) (fuel : ℕ) → length spare ≡ length spare'
-    → ReadLeaves image room spare (done_told 0) s m → ReadLeaves image room' spare' (done_told 0) s' m' → all_whole (state_in s).accumulated ≡ true
+    → ReadLeaves image room spare (done_told 0) s m → ReadLeaves image room' spare' (done_told 0) s' m' → all_whole (state_in s).registers.accumulated ≡ true
     → read_call (call_of s m an fuel 1) ≡ read_call (call_of s' m' an fuel 0)

@@ -6,7 +6,6 @@
 use Rattle.std.proofs.Common.{◌≡◌, ℕ, zero, suc, ◌+◌, ◌-◌, ◌%◌, ◌^◌, ◌<◌, ◌≤◌, Bool, true, false, cond, not, ◌&&◌, ltb, List, [], ◌∷◌, sym, refl, ap, ◌∙◌, arith, ltb-true, lt-ltb}
 use Rattle.refusal.specs.Stops.{refusal_of}
 use Rattle.refusal.specs.declared.Stop.TheVariants as S
-use Rattle.state.specs.Formed.{registers_of}
 use Rattle.state.specs.declared.State.{State}
 use Rattle.execute.specs.World.{World, world_of}
 use Rattle.execute.specs.Execute.{admits}
@@ -15,7 +14,8 @@ use Rattle.execute.specs.declared.Choices.{Choices}
 use Rattle.execute.specs.declared.Mode.{Mode}
 use Rattle.execute.specs.declared.Went.{Went}
 use Rattle.execute.specs.declared.Went.TheVariants as W
-use Rattle.pending.specs.Pending.{Lists, Check, checks_of, lists_fit, room_of, listing}
+use Rattle.pending.specs.Pending.{Lists, checks_of, lists_fit, room_of, listing}
+use Rattle.pending.specs.declared.Check.{Check}
 use Rattle.pending.specs.declared.Room.{Room}
 use Rattle.pending.specs.declared.Room.TheVariants.{Unlent, Left}
 use Rattle.pending.proofs.Lists.{unlent-stays}
@@ -89,7 +89,7 @@ unlent-leg (suc n) k R w l u =
     told rest (W.Refused r) cs v = refl
 
 -- the entry
-pub begins : (c : Choices) (s : State) (fuel : ℕ) (m : List ℕ) (l : Lists) (taken : Bool) → taken ≡ (admits c.mode (registers_of s) && lists_fit l)
+pub begins : (c : Choices) (s : State) (fuel : ℕ) (m : List ℕ) (l : Lists) (taken : Bool) → taken ≡ (admits c.mode s.registers && lists_fit l)
     → comes_to (begun c s fuel taken) m l ≡ run c.mode (rules_of c) fuel (world_of s m) l
 unfolding run
 begins c s fuel m l taken e = rw (← e) (told taken s.halted)

@@ -7,7 +7,8 @@ use lib.ListN.{get_or, set}
 use native.Mathlib.Omega.{arith}
 use native.Mathlib.Numerals.{add-one}
 use Rattle.state.specs.Held.{Held, Whole, Limbs, value_of, settled, kept, waits}
-use Rattle.state.specs.Registers.{Registers, registers, holds, place, normalise, normalise_to}
+use Rattle.state.specs.declared.registers.Registers.{Registers}
+use Rattle.state.specs.Registers.{registers, holds, place, normalise, normalise_to}
 
 -- for the code: `if i == 0 { return; }`, and the stores
 pub place_none : (k v : ℕ) (w : Bool) (b : ℕ) (R : Registers) → k ≡ 0 → place k v w b R ≡ R

@@ -9,7 +9,8 @@ use lib.ListN.{get_or}
 use lib.Pow.{pow_pos, pow-add}
 use lib.Seq.{get_or-set_other}
 use Rattle.state.specs.Held.{Held, Whole, Limbs, low_of, high_of, value_of, normal, joined, settled, held_of, kept, waits}
-use Rattle.state.specs.Registers.{Registers, holds, place, normalise}
+use Rattle.state.specs.declared.registers.Registers.{Registers}
+use Rattle.state.specs.Registers.{holds, place, normalise}
 use Rattle.state.proofs.Files.{set_same}
 
 module _ (width low high : ℕ) where

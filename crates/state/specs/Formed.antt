@@ -2,8 +2,9 @@
 use Rattle.std.specs.Prelude.{ℕ, zero, suc, ◌^◌, Bool, true, false, not, ◌&&◌, ltb, leb, eqb, get_or}
 use mathlib.Core.List.{List, replicate}
 use Rattle.state.specs.Held.{Held, Whole, Limbs}
-use Rattle.state.specs.Registers.{Registers, holds, noted, registers}
+use Rattle.state.specs.Registers.{holds, noted, registers}
 use Rattle.state.specs.declared.State.{State}
+use Rattle.state.specs.declared.registers.Registers.{Registers}
 
 -- "Accumulated limbs are below 2^30"
 unfoldable pub limbs_fit : Held → Bool
@@ -34,10 +35,6 @@ well_formed R = zero_fits R && all_below (register_fits R) 16
 unfoldable pub all_whole : List Bool → Bool
 all_whole fs = all_below (λ n. not (get_or fs n false)) 16
 
--- a state's registers
-abbrev pub registers_of : State → Registers
-registers_of s = registers s.regs s.accumulated s.bounds
-
 -- "Fresh registers are whole 0, bound 0"
 abbrev pub fresh_at : ℕ → State
-fresh_at pc = record { pc = pc; halted = false; regs = replicate 16 0; accumulated = replicate 16 false; bounds = replicate 16 0 }
+fresh_at pc = record { pc = pc; halted = false; registers = registers (replicate 16 0) (replicate 16 false) (replicate 16 0) }

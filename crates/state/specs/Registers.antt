@@ -1,12 +1,7 @@
--- The sixteen registers, in three lists: the number that is kept of each, whether it is accumulated, and its bound. Above this file the
--- definitions see them through `holds`, `noted`, `put` and `normalise` alone.
-use Rattle.std.specs.Prelude.{ℕ, zero, suc, ◌%◌, ◌≡◌, Bool, false, List, get_or, set}
+-- What the sixteen registers hold. Above this file the definitions see them through `holds`, `noted`, `put` and `normalise` alone.
+use Rattle.std.specs.Prelude.{ℕ, zero, suc, ◌%◌, Bool, false, List, get_or, set}
 use Rattle.state.specs.Held.{Held, settled, held_of, kept, waits}
-
-pub record Registers : Type 0 where
-  pub values : List ℕ
-  pub accumulated : List Bool
-  pub bounds : List ℕ
+use Rattle.state.specs.declared.registers.Registers.{Registers}
 
 abbrev pub registers : List ℕ → List Bool → List ℕ → Registers
 registers vs fs bs = record { values = vs; accumulated = fs; bounds = bs }
@@ -40,7 +35,3 @@ normalise n R = put R n (settled (holds R n)) (noted R n)
 unfoldable pub normalise_to : ℕ → Registers → Registers
 normalise_to zero R = R
 normalise_to (suc k) R = normalise (suc k) (normalise_to k R)
-
--- two of the three lists become what f makes of them, whatever the bounds
-abbrev pub Becomes : (Registers → Registers) → List ℕ → List Bool → List ℕ → List Bool → Type 0
-Becomes f vs fs us gs = (bs : List ℕ) → registers us gs bs ≡ f (registers vs fs bs)

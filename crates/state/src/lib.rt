@@ -4,35 +4,25 @@
 ghost use Rattle.std.specs.Prelude.{◌≡◌};
 ghost use Rattle.state.specs.Formed.{fresh_at};
 
-pub mod formed; // formed.rt: the states that refusal 9 turns away
-pub mod registers; // registers.rt: the registers, in three lent arrays
+use registers::Registers;
 
-// A whole register is kept as its value, an accumulated one as low + 2^30 * high.
+pub mod registers; // registers.rt: the sixteen registers
+
 #[derive(Clone, Copy)]
 pub struct State {
     pub pc: u64,
     pub halted: bool,
-    pub regs: [u64; 16],
-    pub accumulated: [bool; 16],
-    pub bounds: [u8; 16],
+    pub registers: Registers,
 }
 
 // A state put together.
-pub fn together(
-    pc: u64,
-    halted: bool,
-    regs: [u64; 16],
-    accumulated: [bool; 16],
-    bounds: [u8; 16],
-) -> State
-    ensures { result ≡ record { pc = pc; halted = halted; regs = regs; accumulated = accumulated; bounds = bounds } }
+pub fn together(pc: u64, halted: bool, registers: Registers) -> State
+    ensures { result ≡ record { pc = pc; halted = halted; registers = registers } }
 {
     State {
         pc,
         halted,
-        regs,
-        accumulated,
-        bounds,
+        registers,
     }
 }
 
@@ -40,5 +30,10 @@ pub fn together(
 pub fn fresh(pc: u64) -> State
     ensures { result ≡ fresh_at pc }
 {
-    together(pc, false, [0; 16], [false; 16], [0; 16])
+    let registers = Registers {
+        values: [0; 16],
+        accumulated: [false; 16],
+        bounds: [0; 16],
+    };
+    together(pc, false, registers)
 }

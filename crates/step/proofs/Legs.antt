@@ -15,22 +15,13 @@ use Rattle.execute.specs.Rules.{Rules}
 use Rattle.execute.specs.declared.Mode.{Mode}
 use Rattle.execute.specs.declared.Went.{Went}
 use Rattle.execute.specs.declared.Went.TheVariants as W
-use Rattle.pending.specs.Pending.{Lists, Check, room_of, listing}
+use Rattle.pending.specs.Pending.{Lists, room_of, listing}
+use Rattle.pending.specs.declared.Check.{Check}
 use Rattle.pending.specs.declared.Room.{Room}
 use Rattle.pending.specs.declared.Room.TheVariants.{Unlent, Left}
 use Rattle.pending.proofs.Lists.{unlent-stays}
 use Rattle.step.specs.Step.{left, step_in, step_of, goes_on, counted}
 use Rattle.step.specs.Leg.{Leg, leg, later, unlisted, passing, leg_in}
-
--- a step of a loop that may go on
-pub one_more : (fuel n : ℕ) → n < fuel → n + 1 ≤ fuel
-one_more fuel n h = omega arith
-
-pub less-left : (fuel n : ℕ) → n < fuel → fuel - (n + 1) < fuel - n
-less-left fuel n h = omega arith
-
-pub steps-fit : (fuel n s : ℕ) → n < fuel → s ≤ 1 → Fits w64 fuel → Fits w64 (n + s)
-steps-fit fuel n s h i fits = Fits-le (omega arith) fits
 
 steps-eq : {g : Went} {w : World} {cs : List Check} {pc : ℕ} (a b : ℕ) → a ≡ b → leg g a w cs pc ≡ leg g b w cs pc
 steps-eq a b e = rw e
@@ -50,15 +41,10 @@ module _ (k : Mode) (room : Room) (R : Rules) (fuel n : ℕ) (w v : World) (g : 
       rw (z, ← one, e)
 
 module _ (k : Mode) (room : Room) (R : Rules) (fuel : ℕ) (w : World) where
-  pub runs-dry : (n : ℕ) → fuel ≤ n → later n (leg_in (fuel - n) k room R w) ≡ leg W.On n w [] w.pc
+  pub runs-dry : (n : ℕ) → n ≡ fuel → later n (leg_in (fuel - n) k room R w) ≡ leg W.On fuel w [] w.pc
   unfolding leg_in
   runs-dry n h =
       let z : fuel - n ≡ 0 = omega arith in
-      rw z (steps-eq _ _ (omega arith))
-
-  pub begins : later 0 (leg_in (fuel - 0) k room R w) ≡ leg_in fuel k room R w
-  begins =
-      let z : fuel - 0 ≡ fuel = omega arith in
       rw z (steps-eq _ _ (omega arith))
 
 one-step-leg : (k : Mode) (room : Room) (R : Rules) (l : Lists) (pc : ℕ) (g : Went) (cs : List Check) (v : World) (a : Leg) → room_of l ≡ room

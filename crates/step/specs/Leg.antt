@@ -6,7 +6,8 @@ use Rattle.execute.specs.Rules.{Rules}
 use Rattle.execute.specs.declared.Mode.{Mode}
 use Rattle.execute.specs.declared.Went.{Went}
 use Rattle.execute.specs.declared.Went.TheVariants as W
-use Rattle.pending.specs.Pending.{Check, checks_of}
+use Rattle.pending.specs.Pending.{checks_of}
+use Rattle.pending.specs.declared.Check.{Check}
 use Rattle.pending.specs.declared.Room.{Room}
 use Rattle.pending.specs.declared.Room.TheVariants.{Unlent, Left}
 use Rattle.step.specs.Step.{step_in, goes_on, counted}

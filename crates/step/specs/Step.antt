@@ -1,9 +1,8 @@
 -- A single step: the word at the pc is fetched, decoded and executed.
-use Rattle.std.specs.Prelude.{Bool, true, false, cond, ◌&&◌, List, ℕ}
+use Rattle.refusal.specs.declared.Refusal.{Refusal}
+use Rattle.std.specs.Prelude.{Err, Ok, Result, Bool, true, false, cond, ◌&&◌, List, ℕ}
 use Rattle.refusal.specs.Stops.{refusal_of}
 use Rattle.memory.specs.Memory.{fetch_of}
-use Rattle.memory.specs.declared.Fetched.{Fetched}
-use Rattle.memory.specs.declared.Fetched.TheVariants as F
 use Rattle.words.specs.Words.{decode_in}
 use Rattle.execute.specs.World.{World, world_of, Stepped, refused}
 use Rattle.execute.specs.Execute.{admits}
@@ -16,9 +15,9 @@ use Rattle.pending.specs.declared.Room.{Room}
 use Rattle.step.specs.declared.OneStep.{OneStep}
 
 -- "A step tests 9, 6, 7, 4, 5, then 1, or 3 and 2, then 8": 6 and 7 as the word is fetched
-unfoldable pub fetched : Mode → Room → Rules → Fetched → World → Stepped
-fetched k room R (F.Word x) w = obey k room R (decode_in R.number x) w
-fetched k room R (F.Refused r) w = refused r w
+unfoldable pub fetched : Mode → Room → Rules → Result ℕ Refusal → World → Stepped
+fetched k room R (Ok x) w = obey k room R (decode_in R.number x) w
+fetched k room R (Err r) w = refused r w
 
 abbrev pub step_in : Mode → Room → Rules → World → Stepped
 step_in k room R w = fetched k room R (fetch_of w.memory w.pc) w

@@ -1,7 +1,6 @@
 // A leg of a run: the one loop over which all runs go. It has no list in it: the checks that end it are given back, for a caller
 // that lists them.
 ghost use Rattle.std.specs.Prelude.{◌≡◌, ◌&&◌, ◌≤◌};
-ghost use Rattle.state.specs.Registers.{registers};
 ghost use Rattle.pending.specs.Pending.{checks_of};
 ghost use Rattle.execute.specs.World.{world_of};
 ghost use Rattle.execute.specs.Rules.{rules_of};
@@ -10,16 +9,16 @@ ghost use Rattle.step.specs.Step.{step_in, goes_on, counted};
 ghost use Rattle.step.specs.Leg.{unlisted, leg_in, gone};
 
 use execute::{Advance, Choices, Start, Went, word};
-use memory::Fetched;
-use pending::{Checks, Room};
+use pending::{Check, Room};
 use state::State;
+use state::registers::Registers;
 
 // How the last step went, the steps, the checks that the last one asks for, and its pc.
 #[derive(Clone, Copy)]
 pub struct Gone {
     pub went: Went,
     pub steps: u64,
-    pub checks: Checks,
+    pub checks: Option<Check>,
     pub pc: u64,
     pub state: State,
 }
@@ -47,19 +46,19 @@ fn counted(went: Went) -> u64
 }
 
 // Whether there is nothing to be listed.
-fn unlisted(checks: Checks, room: Room) -> bool
+fn unlisted(checks: Option<Check>, room: Room) -> bool
     ensures { result ≡ unlisted (checks_of checks) room }
 {
     match checks {
-        Checks::Nothing => true,
-        Checks::One { .. } => match room {
+        None => true,
+        Some(_) => match room {
             Room::Unlent => true,
             Room::Left(_) => false,
         },
     }
 }
 
-fn passes(went: Went, checks: Checks, room: Room) -> bool
+fn passes(went: Went, checks: Option<Check>, room: Room) -> bool
     ensures { result ≡ (goes_on went && unlisted (checks_of checks) room) }
 {
     if !goes_on(went) {
@@ -69,18 +68,12 @@ fn passes(went: Went, checks: Checks, room: Room) -> bool
 }
 
 // One step over lent registers and memory.
-fn step_in(
-    start: Start,
-    regs: &mut [u64; 16],
-    accumulated: &mut [bool; 16],
-    bounds: &mut [u8; 16],
-    m: &mut [u8],
-) -> Advance
-    ensures { advanced result (registers regs.new accumulated.new bounds.new) m.new ≡ step_in start.choices.mode start.room (rules_of start.choices) (started start (registers regs.old accumulated.old bounds.old) m.old) }
+fn step_in(start: Start, registers: &mut Registers, m: &mut [u8]) -> Advance
+    ensures { advanced result registers.new m.new ≡ step_in start.choices.mode start.room (rules_of start.choices) (started start registers.old m.old) }
 {
     match memory::fetch(m, start.pc) {
-        Fetched::Word(word) => word::obey(start, word, regs, accumulated, bounds, m),
-        Fetched::Refused(r) => execute::refuse(start, r),
+        Ok(word) => word::obey(start, word, registers, m),
+        Err(r) => execute::refuse(start, r),
     }
 }
 
@@ -88,20 +81,17 @@ fn step_in(
 pub fn advance(choices: Choices, room: Room, s: State, fuel: u64, m: &mut [u8]) -> Gone
     ensures { gone result m.new ≡ leg_in fuel choices.mode room (rules_of choices) (world_of s m.old) }
 {
-    let mut regs = s.regs;
-    let mut accumulated = s.accumulated;
-    let mut bounds = s.bounds;
+    let mut registers = s.registers;
     let mut pc = s.pc;
     let mut halted = s.halted;
-    let mut n: u64 = 0;
-    while n < fuel {
+    for n in 0..fuel {
         let start = Start {
             choices,
             room,
             pc,
             halted,
         };
-        let a = step_in(start, &mut regs, &mut accumulated, &mut bounds, m);
+        let a = step_in(start, &mut registers, m);
         let went = a.went;
         let checks = a.checks;
         if !passes(went, checks, room) {
@@ -111,18 +101,17 @@ pub fn advance(choices: Choices, room: Room, s: State, fuel: u64, m: &mut [u8]) 
                 steps,
                 checks,
                 pc,
-                state: state::together(a.pc, a.halted, regs, accumulated, bounds),
+                state: state::together(a.pc, a.halted, registers),
             };
         }
         pc = a.pc;
         halted = a.halted;
-        n += 1;
     }
     Gone {
         went: Went::On,
-        steps: n,
-        checks: Checks::Nothing,
+        steps: fuel,
+        checks: None,
         pc,
-        state: state::together(pc, halted, regs, accumulated, bounds),
+        state: state::together(pc, halted, registers),
     }
 }

@@ -2,7 +2,6 @@
 #![tactic(auto)]
 
 ghost use Rattle.std.specs.Prelude.{◌≡◌, ◌&&◌};
-ghost use Rattle.state.specs.Formed.{registers_of};
 ghost use Rattle.execute.specs.World.{world_of};
 ghost use Rattle.execute.specs.Execute.{admits};
 ghost use Rattle.execute.specs.Rules.{rules_of};
@@ -25,9 +24,9 @@ pub struct OneStep {
 
 // Whether the mode and the lists take such arguments: 9 otherwise.
 pub fn takes(mode: Mode, s: State, values: usize, bounds: usize, pcs: usize, count: usize) -> bool
-    ensures { result ≡ (admits mode (registers_of s) && lengths_fit values bounds pcs count) }
+    ensures { result ≡ (admits mode s.registers && lengths_fit values bounds pcs count) }
 {
-    if !execute::admits(mode, &s.regs, &s.accumulated, &s.bounds) {
+    if !execute::admits(mode, &s.registers) {
         return false;
     }
     pending::lists_fit(values, bounds, pcs, count)

@@ -1,8 +1,8 @@
 -- Whatever spells a sum is read as its value: the reader takes the whole language, and each text has one value. Assumes nothing.
+use Rattle.std.specs.Prelude.{None, Option, Some}
 use mathlib.Core.Path.{◌≡◌, refl, ap, ◌∙◌, subst}
 use mathlib.Core.Bool.{true, false}
 use mathlib.Core.List.{List, [], ◌∷◌, ◌++◌, append_assoc}
-use mathlib.Core.Option.{Option, none, some}
 use Prim.Native.Nat.{ℕ, zero, suc, ◌+◌, ◌<◌}
 use native.Mathlib.Omega.{arith}
 use lib.IntN.{ℤ}
@@ -98,7 +98,7 @@ unfolding rest_text
 rest-apart done t h = h
 rest-apart (then g op k e r) t h = rw append_assoc (space-apart g _ (op-apart op _))
 
-rest-none : (r : Rest) (look : List ℕ → Option ℤ) (d : ℕ) → rest_value r look d none ≡ none
+rest-none : (r : Rest) (look : List ℕ → Option ℤ) (d : ℕ) → rest_value r look d None ≡ None
 unfolding rest_value both
 rest-none done look d = refl
 rest-none (then g op k e r) look d = rest-none r look d
@@ -109,7 +109,7 @@ TermLaw e = (look : List ℕ → Option ℤ) (d : ℕ) (t : List ℕ) → is_par
 
 RestLaw : Rest → Type 0
 RestLaw r = (look : List ℕ → Option ℤ) (d : ℕ) (t : List ℕ) → Ends t → (f : ℕ) (v : ℤ) → length (rest_text r ++ t) < f
-    → more_by (term_read d look) f v (skip (rest_text r ++ t)) ≡ given (rest_value r look d (some v)) (skip t)
+    → more_by (term_read d look) f v (skip (rest_text r ++ t)) ≡ given (rest_value r look d (Some v)) (skip t)
 
 unfoldable pub goes : (List ℕ → Got) → ℕ → Op → ℤ → Got → Got
 goes term f op v w = onto (λ w u. onto (λ x r. more_by term f x (skip r)) (given (checked (join op v w)) u)) w
@@ -125,15 +125,15 @@ skip-op add t = refl
 skip-op sub t = refl
 
 module _ (look : List ℕ → Option ℤ) (d : ℕ) (r : Rest) (t : List ℕ) (f : ℕ)
-    (R : (x : ℤ) → more_by (term_read d look) f x (skip (rest_text r ++ t)) ≡ given (rest_value r look d (some x)) (skip t)) where
+    (R : (x : ℤ) → more_by (term_read d look) f x (skip (rest_text r ++ t)) ≡ given (rest_value r look d (Some x)) (skip t)) where
   goes_on : (o : Option ℤ) → onto (λ x u. more_by (term_read d look) f x (skip u)) (given o (rest_text r ++ t)) ≡ given (rest_value r look d o) (skip t)
-  goes_on none = rw rest-none
-  goes_on (some x) = R x
+  goes_on None = rw rest-none
+  goes_on (Some x) = R x
 
-  goes-law : (op : Op) (v : ℤ) (o : Option ℤ) → goes (term_read d look) f op v (given o (rest_text r ++ t)) ≡ given (rest_value r look d (both op (some v) o)) (skip t)
+  goes-law : (op : Op) (v : ℤ) (o : Option ℤ) → goes (term_read d look) f op v (given o (rest_text r ++ t)) ≡ given (rest_value r look d (both op (Some v) o)) (skip t)
   unfolding goes both
-  goes-law op v none = rw rest-none
-  goes-law op v (some w) = goes_on (checked (join op v w))
+  goes-law op v None = rw rest-none
+  goes-law op v (Some w) = goes_on (checked (join op v w))
 
 then-law : (g : ℕ) (op : Op) (k : ℕ) (e : Term) (r : Rest) → TermLaw e → RestLaw r → RestLaw (then g op k e r)
 unfolding RestLaw TermLaw rest_text rest_value
@@ -146,7 +146,7 @@ then-law g op k e r T R look d t ends (suc f) v fuel =
     let reads : term_read d look (skip W) ≡ given (term_value e look d) X =
     ap (term_read d look) (skip-spaces k (term_text e ++ X) ∙ skip-term e X) ∙ T look d X (rest-apart r t ends.apart) in
     let size : length (spaces g) + suc (length (spaces k) + (length (term_text e) + (length (rest_text r) + length t))) < suc f = simp length-append at (subst (λ (l : List ℕ). length l < suc f) whole fuel) in
-    let more : (x : ℤ) → more_by (term_read d look) f x (skip X) ≡ given (rest_value r look d (some x)) (skip t) = λ x. R look d t ends f x (omega (arith, length-append (rest_text r) t)) in
+    let more : (x : ℤ) → more_by (term_read d look) f x (skip X) ≡ given (rest_value r look d (Some x)) (skip t) = λ x. R look d t ends f x (omega (arith, length-append (rest_text r) t)) in
     ap (more_by (term_read d look) (suc f) v) starts
     ∙ more-op (term_read d look) f op v W
     ∙ ap (goes (term_read d look) f op v) reads
@@ -164,7 +164,7 @@ unfolding RestLaw TermLaw
 sum-law e r T R look d t ends =
     let X : List ℕ = rest_text r ++ t in
     let n : ℕ = length (term_text e ++ X) in
-    let more : (x : ℤ) → more_by (term_read d look) (suc n) x (skip X) ≡ given (rest_value r look d (some x)) (skip t) = λ x. R look d t ends (suc n) x (omega (arith, length-append (term_text e) X)) in
+    let more : (x : ℤ) → more_by (term_read d look) (suc n) x (skip X) ≡ given (rest_value r look d (Some x)) (skip t) = λ x. R look d t ends (suc n) x (omega (arith, length-append (term_text e) X)) in
     sum_is d look (term_text e ++ X)
     ∙ ap (onto (λ v u. more_by (term_read d look) (suc n) v (skip u))) (T look d X (rest-apart r t ends.apart))
     ∙ goes_on look d r t (suc n) more (term_value e look d)
@@ -175,8 +175,8 @@ ends-shut k t = record { apart = space-apart k (41 ∷ t) refl; no_plus = rw ski
 
 shut-law : (o : Option ℤ) (t : List ℕ) → onto closed_after (given o (41 ∷ t)) ≡ given o t
 unfolding closed_after head_of tail_of
-shut-law none t = refl
-shut-law (some v) t = refl
+shut-law None t = refl
+shut-law (Some v) t = refl
 
 open-law : (d : ℕ) (look : List ℕ → Option ℤ) (t : List ℕ) → term_read d look (40 ∷ t) ≡ onto closed_after (inner_read d look (skip t))
 unfolding term_read term_by head_of tail_of

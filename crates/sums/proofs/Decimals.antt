@@ -1,8 +1,8 @@
 -- Digits that are counted one by one. Assumes nothing.
+use Rattle.std.specs.Prelude.{None, Option}
 use mathlib.Core.Path.{◌≡◌, refl, sym, ap, ◌∙◌}
 use mathlib.Core.Bool.{Bool, true, false, cond}
 use mathlib.Core.List.{List, [], ◌∷◌}
-use mathlib.Core.Option.{Option, none}
 use Prim.Native.Nat.{ℕ, ◌+◌, ◌-◌, ◌*◌, ◌^◌, ◌≤◌, ◌<◌}
 use native.Mathlib.Omega.{arith}
 use lib.ListN.{drop}
@@ -63,7 +63,7 @@ module _ (s : List ℕ) (at v n : ℕ) (g : Counting s at v n) where
   grows v [] = omega arith
   grows v (d ∷ ds) = let i = grows (v * 10 + (d - 48)) ds in omega arith
 
-  too_many : (negative : Bool) (m : ℕ) → 2 ^ 63 < m → checked (signed (sign_of negative) m) ≡ none
+  too_many : (negative : Bool) (m : ℕ) → 2 ^ 63 < m → checked (signed (sign_of negative) m) ≡ None
   too_many true m h = ap checked (signed-dif true m) ∙ dif-low 0 m (omega arith)
   too_many false m h = ap checked (signed-dif false m) ∙ dif-high m 0 (omega arith)
 

@@ -1,7 +1,7 @@
 -- Differences of two numbers, as integers, and those that fit a signed 64-bit number. Assumes nothing.
+use Rattle.std.specs.Prelude.{None, Some}
 use mathlib.Core.Path.{◌≡◌, refl, sym, ap, ◌∙◌}
 use mathlib.Core.Bool.{Bool, true, false, cond}
-use mathlib.Core.Option.{none, some}
 use Prim.Native.Nat.{ℕ, zero, suc, ◌+◌, ◌-◌, ◌^◌, ◌≤◌, ◌<◌}
 use native.Mathlib.Omega.{arith}
 use lib.Dec.{ltb}
@@ -55,19 +55,19 @@ dif_neg c d = neg_ℤ-+ℤ (pos c) (neg_ℤ (pos d)) ∙ ap (λ (k : ℤ). neg_�
 pub dif-sub : (a b c d : ℕ) → dif a b -ℤ dif c d ≡ dif (a + d) (b + c)
 dif-sub a b c d = ap (λ (k : ℤ). dif a b +ℤ k) (dif_neg c d) ∙ dif-add a b d c
 
-of64-fits : (n : ℕ) → n < 2 ^ 64 → checked (of64 n) ≡ some (of64 n)
+of64-fits : (n : ℕ) → n < 2 ^ 64 → checked (of64 n) ≡ Some (of64 n)
 unfolding checked
-of64-fits n h = by_order n (2 ^ 63) (cond (fits64 (of64 n)) (some (of64 n)) none ≡ some (of64 n))
-    (λ l. ap (λ (t : Bool). cond t (some (of64 n)) none) (ap fits64 (dif-lt n (2 ^ 63) l) ∙ lt-ltb (2 ^ 63 - suc n) (2 ^ 63) (omega arith)))
-    (λ l. ap (λ (t : Bool). cond t (some (of64 n)) none) (ap fits64 (dif-ge n (2 ^ 63) l) ∙ lt-ltb (n - 2 ^ 63) (2 ^ 63) (omega arith)))
+of64-fits n h = by_order n (2 ^ 63) (cond (fits64 (of64 n)) (Some (of64 n)) None ≡ Some (of64 n))
+    (λ l. ap (λ (t : Bool). cond t (Some (of64 n)) None) (ap fits64 (dif-lt n (2 ^ 63) l) ∙ lt-ltb (2 ^ 63 - suc n) (2 ^ 63) (omega arith)))
+    (λ l. ap (λ (t : Bool). cond t (Some (of64 n)) None) (ap fits64 (dif-ge n (2 ^ 63) l) ∙ lt-ltb (n - 2 ^ 63) (2 ^ 63) (omega arith)))
 
-pub dif-fits : (a b n : ℕ) → n + b ≡ a + 2 ^ 63 → n < 2 ^ 64 → checked (dif a b) ≡ some (of64 n)
+pub dif-fits : (a b n : ℕ) → n + b ≡ a + 2 ^ 63 → n < 2 ^ 64 → checked (dif a b) ≡ Some (of64 n)
 dif-fits a b n e h = ap checked (dif-eq a b n (2 ^ 63) (sym e)) ∙ of64-fits n h
 
-pub dif-high : (a b : ℕ) → b + 2 ^ 63 ≤ a → checked (dif a b) ≡ none
+pub dif-high : (a b : ℕ) → b + 2 ^ 63 ≤ a → checked (dif a b) ≡ None
 unfolding checked
-dif-high a b h = ap (λ (t : Bool). cond t (some (dif a b)) none) (ap fits64 (dif-ge a b (omega arith)) ∙ le-ltb (a - b) (2 ^ 63) (omega arith))
+dif-high a b h = ap (λ (t : Bool). cond t (Some (dif a b)) None) (ap fits64 (dif-ge a b (omega arith)) ∙ le-ltb (a - b) (2 ^ 63) (omega arith))
 
-pub dif-low : (a b : ℕ) → a + 2 ^ 63 < b → checked (dif a b) ≡ none
+pub dif-low : (a b : ℕ) → a + 2 ^ 63 < b → checked (dif a b) ≡ None
 unfolding checked
-dif-low a b h = ap (λ (t : Bool). cond t (some (dif a b)) none) (ap fits64 (dif-lt a b (omega arith)) ∙ le-ltb (b - suc a) (2 ^ 63) (omega arith))
+dif-low a b h = ap (λ (t : Bool). cond t (Some (dif a b)) None) (ap fits64 (dif-lt a b (omega arith)) ∙ le-ltb (b - suc a) (2 ^ 63) (omega arith))

@@ -1,8 +1,8 @@
 -- Whatever is read spells a sum of that value: the reader takes nothing but the language. Assumes nothing.
+use Rattle.std.specs.Prelude.{None, Option, Some}
 use mathlib.Core.Path.{◌≡◌, refl, sym, ap, ◌∙◌}
 use mathlib.Core.Bool.{Bool, true, false, cond}
 use mathlib.Core.List.{List, [], ◌∷◌, ◌++◌, append_assoc}
-use mathlib.Core.Option.{Option, none, some}
 use Prim.Native.Nat.{ℕ, zero, suc}
 use native.Mathlib.Omega.{arith}
 use lib.IntN.{ℤ}
@@ -19,9 +19,9 @@ use Rattle.sums.proofs.Complete.{sum_is, goes}
 pub bad-got : {A : Type 0} {v : ℤ} {u : List ℕ} → bad ≡ got v u → A
 bad-got h = absurd (let z : ◌≡◌ {A = ℕ} 0 1 = cc in omega arith)
 
-pub given-got : (o : Option ℤ) (t : List ℕ) (v : ℤ) (u : List ℕ) → given o t ≡ got v u → (o ≡ some v) × (t ≡ u)
-given-got none t v u h = bad-got h
-given-got (some x) t v u h = (cc, cc)
+pub given-got : (o : Option ℤ) (t : List ℕ) (v : ℤ) (u : List ℕ) → given o t ≡ got v u → (o ≡ Some v) × (t ≡ u)
+given-got None t v u h = bad-got h
+given-got (Some x) t v u h = (cc, cc)
 
 -- a first byte that is not 0 is there
 pub cons-is : (t : List ℕ) (b : ℕ) → head_of t ≡ b → (b ≡ 0 → ⊥) → t ≡ b ∷ tail_of t
@@ -35,18 +35,18 @@ skipped t = sym (run_past is_space t) ∙ ap (◌++ skip t) (are-spaces (run_of 
 -- ---- a term
 module _ (look : List ℕ → Option ℤ) (d : ℕ) where
   TermSound : List ℕ → ℤ → List ℕ → Type 0
-  TermSound t v u = (e : Term) × (t ≡ term_text e ++ u) × (term_value e look d ≡ some v)
+  TermSound t v u = (e : Term) × (t ≡ term_text e ++ u) × (term_value e look d ≡ Some v)
 
   is-number : (t : List ℕ) → is_digit (head_of t) ≡ true → is_number (run_of is_digit t) ≡ true
   unfolding is_number
   is-number t h = rw (run_on is_digit t refl h) (rw (← (run_on is_digit t refl h)) (every-run is_digit t))
 
-  digits-sound : (s : Sign) (t : List ℕ) (v : ℤ) (u : List ℕ) → digits_read s t ≡ got v u → (ds : List ℕ) × (is_number ds ≡ true) × (t ≡ ds ++ u) × (checked (signed s (decimal ds)) ≡ some v)
+  digits-sound : (s : Sign) (t : List ℕ) (v : ℤ) (u : List ℕ) → digits_read s t ≡ got v u → (ds : List ℕ) × (is_number ds ≡ true) × (t ≡ ds ++ u) × (checked (signed s (decimal ds)) ≡ Some v)
   unfolding digits_read
   digits-sound s t v u = go (is_digit (head_of t)) refl
     where
       go : (c : Bool) → is_digit (head_of t) ≡ c → cond c (given (checked (signed s (decimal (run_of is_digit t)))) (past is_digit t)) bad ≡ got v u
-          → (ds : List ℕ) × (is_number ds ≡ true) × (t ≡ ds ++ u) × (checked (signed s (decimal ds)) ≡ some v)
+          → (ds : List ℕ) × (is_number ds ≡ true) × (t ≡ ds ++ u) × (checked (signed s (decimal ds)) ≡ Some v)
       go true e h = let k = given-got (checked (signed s (decimal (run_of is_digit t)))) (past is_digit t) v u h in
           (run_of is_digit t, is-number t e, sym (run_past is_digit t) ∙ ap (run_of is_digit t ++◌) k.1, k.0)
       go false e h = bad-got h
@@ -85,7 +85,7 @@ module _ (look : List ℕ → Option ℤ) (d : ℕ) where
 
 -- ---- a sum, whose reader has passed the spaces after it
 SumSound : (List ℕ → Option ℤ) → ℕ → Type 0
-SumSound look d = (t : List ℕ) (v : ℤ) (u : List ℕ) → sum_read d look t ≡ got v u → (e : Sum) × ((k : ℕ) × (t ≡ sum_text e ++ (spaces k ++ u)) × (sum_value e look d ≡ some v))
+SumSound look d = (t : List ℕ) (v : ℤ) (u : List ℕ) → sum_read d look t ≡ got v u → (e : Sum) × ((k : ℕ) × (t ≡ sum_text e ++ (spaces k ++ u)) × (sum_value e look d ≡ Some v))
 
 InnerSound : (List ℕ → Option ℤ) → ℕ → Type 0
 InnerSound look zero = Unit {0}
@@ -125,17 +125,17 @@ module _ (look : List ℕ → Option ℤ) where
       go false e h = go' (is_letter (head_of t)) refl h
 
   RestSound : ℕ → List ℕ → ℤ → ℤ → List ℕ → Type 0
-  RestSound d t v w u = (r : Rest) × ((k : ℕ) × (t ≡ rest_text r ++ (spaces k ++ u)) × (rest_value r look d (some v) ≡ some w))
+  RestSound d t v w u = (r : Rest) × ((k : ℕ) × (t ≡ rest_text r ++ (spaces k ++ u)) × (rest_value r look d (Some v) ≡ Some w))
 
   goes-got : (term : List ℕ → Got) (f : ℕ) (op : Op) (v : ℤ) (x : Got) (w : ℤ) (u : List ℕ) → goes term f op v x ≡ got w u
-      → (y : ℤ) × ((t : List ℕ) × (x ≡ got y t) × ((z : ℤ) × (checked (join op v y) ≡ some z) × (more_by term f z (skip t) ≡ got w u)))
+      → (y : ℤ) × ((t : List ℕ) × (x ≡ got y t) × ((z : ℤ) × (checked (join op v y) ≡ Some z) × (more_by term f z (skip t) ≡ got w u)))
   unfolding goes
   goes-got term f op v bad w u h = bad-got h
   goes-got term f op v (got y t) w u h = (y, (t, refl, go (checked (join op v y)) refl h))
     where
-      go : (o : Option ℤ) → checked (join op v y) ≡ o → onto (λ x r. more_by term f x (skip r)) (given o t) ≡ got w u → (z : ℤ) × (checked (join op v y) ≡ some z) × (more_by term f z (skip t) ≡ got w u)
-      go none e h = bad-got h
-      go (some z) e h = (z, e, h)
+      go : (o : Option ℤ) → checked (join op v y) ≡ o → onto (λ x r. more_by term f x (skip r)) (given o t) ≡ got w u → (z : ℤ) × (checked (join op v y) ≡ Some z) × (more_by term f z (skip t) ≡ got w u)
+      go None e h = bad-got h
+      go (Some z) e h = (z, e, h)
 
   op-sound : (d : ℕ) → InnerSound look d → (f : ℕ) → ((z : ℤ) (t : List ℕ) (w : ℤ) (u : List ℕ) → more_by (term_read d look) f z (skip t) ≡ got w u → RestSound d t z w u)
       → (op : Op) (v : ℤ) (t : List ℕ) (w : ℤ) (u : List ℕ) → head_of (skip t) ≡ op_text op → (op_text op ≡ 0 → ⊥) → goes (term_read d look) f op v (term_read d look (skip (tail_of (skip t)))) ≡ got w u → RestSound d t v w u
@@ -150,7 +150,7 @@ module _ (look : List ℕ → Option ℤ) where
         (
           r.1.0,
           skipped t ∙ ap (spaces g ++◌) (cons-is (skip t) (op_text op) e n ∙ ap (op_text op ∷◌) (skipped (tail_of (skip t)) ∙ ap (spaces i ++◌) (y.1 ∙ ap (term_text y.0 ++◌) r.1.1))) ∙ simp append_assoc,
-          ap (rest_value r.0 look d) (ap (both op (some v)) y.2 ∙ k.1.2.1) ∙ r.1.2,
+          ap (rest_value r.0 look d) (ap (both op (Some v)) y.2 ∙ k.1.2.1) ∙ r.1.2,
         ),
       )
 
@@ -191,7 +191,7 @@ module _ (look : List ℕ → Option ℤ) where
       )
 
   -- whatever is read is a sum of that value, and spaces
-  pub sound : (d : ℕ) (t : List ℕ) (v : ℤ) (u : List ℕ) → sum_read d look t ≡ got v u → (e : Sum) × ((k : ℕ) × (t ≡ sum_text e ++ (spaces k ++ u)) × (sum_value e look d ≡ some v))
+  pub sound : (d : ℕ) (t : List ℕ) (v : ℤ) (u : List ℕ) → sum_read d look t ≡ got v u → (e : Sum) × ((k : ℕ) × (t ≡ sum_text e ++ (spaces k ++ u)) × (sum_value e look d ≡ Some v))
   unfolding SumSound InnerSound
   sound zero = sum-sound zero tt
   sound (suc d) = sum-sound (suc d) (sound d)

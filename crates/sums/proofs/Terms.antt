@@ -1,8 +1,8 @@
 -- What the reader's definitions say of a text from a place on, case by case. Assumes nothing.
+use Rattle.std.specs.Prelude.{None, Option, Some}
 use mathlib.Core.Path.{◌≡◌, refl, sym, ap, ◌∙◌}
 use mathlib.Core.Bool.{Bool, true, false, cond}
 use mathlib.Core.List.{List}
-use mathlib.Core.Option.{Option, none, some}
 use Prim.Native.Nat.{ℕ, zero, suc, ◌+◌, ◌-◌, ◌*◌, ◌≤◌, ◌<◌}
 use native.Mathlib.Numerals.{sub-one}
 use native.Mathlib.Omega.{arith}
@@ -45,24 +45,24 @@ module _ (s : List ℕ) (at : ℕ) where
   number-bare p m = simp (ne_eqb _ _ p, ne_eqb _ _ m)
 
 -- ---- labels
-pub found_none : (o : Option ℕ) (m : ℕ) → found_by o m ≡ Nothing → o ≡ none
-found_none none m e = refl
-found_none (some j) m e = absurd (let z : ◌≡◌ {A = ℕ} 0 1 = cc in omega arith)
+pub found_none : (o : Option ℕ) (m : ℕ) → found_by o m ≡ Nothing → o ≡ None
+found_none None m e = refl
+found_none (Some j) m e = absurd (let z : ◌≡◌ {A = ℕ} 0 1 = cc in omega arith)
 
-pub found_at : (o : Option ℕ) (m i n : ℕ) → found_by o m ≡ At i n → (o ≡ some i) × (n ≡ m)
-found_at none m i n e = absurd (let z : ◌≡◌ {A = ℕ} 0 1 = cc in omega arith)
-found_at (some j) m i n e = (cc, cc)
+pub found_at : (o : Option ℕ) (m i n : ℕ) → found_by o m ≡ At i n → (o ≡ Some i) × (n ≡ m)
+found_at None m i n e = absurd (let z : ◌≡◌ {A = ℕ} 0 1 = cc in omega arith)
+found_at (Some j) m i n e = (cc, cc)
 
 module _ (text table : List ℕ) (base : ℕ) (t : List ℕ) where
-  pub name-none : index_in text table (run_of is_part t) ≡ none → name_read (look_in text table base) t ≡ bad
+  pub name-none : index_in text table (run_of is_part t) ≡ None → name_read (look_in text table base) t ≡ bad
   unfolding name_read look_in known
   name-none h = simp h
 
-  name-some : (i : ℕ) → index_in text table (run_of is_part t) ≡ some i → name_read (look_in text table base) t ≡ given (checked (dif (4 * i) (4 * base))) (past is_part t)
+  name-some : (i : ℕ) → index_in text table (run_of is_part t) ≡ Some i → name_read (look_in text table base) t ≡ given (checked (dif (4 * i) (4 * base))) (past is_part t)
   unfolding name_read look_in known
   name-some i h = simp h
 
-  pub name-is : (i : ℕ) (o : Option ℤ) → index_in text table (run_of is_part t) ≡ some i → checked (dif (4 * i) (4 * base)) ≡ o → name_read (look_in text table base) t ≡ given o (past is_part t)
+  pub name-is : (i : ℕ) (o : Option ℤ) → index_in text table (run_of is_part t) ≡ Some i → checked (dif (4 * i) (4 * base)) ≡ o → name_read (look_in text table base) t ≡ given o (past is_part t)
   name-is i o h e = name-some i h ∙ ap (λ (x : Option ℤ). given x (past is_part t)) e
 
 pub name-past : (s : List ℕ) (at n : ℕ) → is_letter (head_of (drop at s)) ≡ true → Passed is_part s at n → (at < n) × (n ≤ length s)
@@ -149,11 +149,11 @@ module _ (T : List ℕ → Got) (s : List ℕ) (f v n c m : ℕ) where
   unfolding goes
   turn-bad e h p b = more-goes T f (of64 v) s n c e h m p ∙ ap (goes T f (op_of c) (of64 v)) b
 
-  pub turn-over : (w u : ℕ) → c ≡ sign_at (head_of (drop n s)) → (c ≡ 0 → ⊥) → Passed is_space s (n + 1) m → T (drop m s) ≡ got (of64 w) (drop u s) → checked (join (op_of c) (of64 v) (of64 w)) ≡ none → more_by T (suc f) (of64 v) (drop n s) ≡ bad
+  pub turn-over : (w u : ℕ) → c ≡ sign_at (head_of (drop n s)) → (c ≡ 0 → ⊥) → Passed is_space s (n + 1) m → T (drop m s) ≡ got (of64 w) (drop u s) → checked (join (op_of c) (of64 v) (of64 w)) ≡ None → more_by T (suc f) (of64 v) (drop n s) ≡ bad
   unfolding goes
   turn-over w u e h p b o = more-goes T f (of64 v) s n c e h m p ∙ ap (goes T f (op_of c) (of64 v)) b ∙ ap (λ (x : Option ℤ). onto (λ x r. more_by T f x (skip r)) (given x (drop u s))) o
 
-  pub turn_on : (w u x k : ℕ) → c ≡ sign_at (head_of (drop n s)) → (c ≡ 0 → ⊥) → Passed is_space s (n + 1) m → T (drop m s) ≡ got (of64 w) (drop u s) → checked (join (op_of c) (of64 v) (of64 w)) ≡ some (of64 x)
+  pub turn_on : (w u x k : ℕ) → c ≡ sign_at (head_of (drop n s)) → (c ≡ 0 → ⊥) → Passed is_space s (n + 1) m → T (drop m s) ≡ got (of64 w) (drop u s) → checked (join (op_of c) (of64 v) (of64 w)) ≡ Some (of64 x)
       → Passed is_space s u k → more_by T (suc f) (of64 v) (drop n s) ≡ more_by T f (of64 x) (drop k s)
   unfolding goes
   turn_on w u x k e h p b o q =

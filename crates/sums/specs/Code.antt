@@ -1,6 +1,5 @@
 -- Inner: what the answers say of the text that was read.
-use Rattle.std.specs.Prelude.{ℕ, ◌^◌, ◌<◌, ◌≤◌, Bool, true, false, cond, List, eqb, ℤ, length, drop}
-use Rattle.std.proofs.Math.Option.{Option, none, some}
+use Rattle.std.specs.Prelude.{None, Option, Some, ℕ, ◌^◌, ◌<◌, ◌≤◌, Bool, true, false, cond, List, eqb, ℤ, length, drop}
 use Rattle.labels.specs.Table.{index_in}
 use Rattle.sums.specs.Sums.{Sign, plus, minus, Op, add, sub, dif, distance}
 use Rattle.sums.specs.Reader.{Got, got, bad}
@@ -14,8 +13,8 @@ abbrev pub of64 : ℕ → ℤ
 of64 n = dif n (2 ^ 63)
 
 abbrev pub value_read : Both → Option ℤ
-value_read (Of n) = some (of64 n)
-value_read Over = none
+value_read (Of n) = Some (of64 n)
+value_read Over = None
 
 abbrev pub sign_of : Bool → Sign
 sign_of true = minus

@@ -1,6 +1,5 @@
 -- Inner: what a sum is read as, from the text that is left. Sums.antt says what is right.
-use Rattle.std.specs.Prelude.{ℕ, zero, suc, cond, List, eqb, ℤ, length}
-use Rattle.std.proofs.Math.Option.{Option, none, some}
+use Rattle.std.specs.Prelude.{None, Option, Some, ℕ, zero, suc, cond, List, eqb, ℤ, length}
 use Rattle.labels.specs.Bytes.{is_digit, is_letter, is_part, decimal, head_of}
 use Rattle.labels.specs.Reading.{tail_of, run_of, past, skip}
 use Rattle.sums.specs.Sums.{Sign, unsigned, plus, minus, add, sub, checked, known, signed, join}
@@ -10,8 +9,8 @@ pub data Got : Type 0 where
   bad : Got
 
 abbrev pub given : Option ℤ → List ℕ → Got
-given none t = bad
-given (some v) t = got v t
+given None t = bad
+given (Some v) t = got v t
 
 abbrev pub onto : (ℤ → List ℕ → Got) → Got → Got
 onto go (got v t) = go v t

@@ -1,7 +1,6 @@
 -- "An immediate or offset may be a sum or difference of signed decimal numbers and labels, with parentheses nested at most
 -- sixteen deep": what can be written, as trees that hold every space; the text of a tree; its value.
-use Rattle.std.specs.Prelude.{ℕ, zero, suc, ◌*◌, ◌^◌, Bool, true, cond, List, [], ◌∷◌, ◌++◌, ◌≡◌, ltb, ℤ, pos, negsuc, neg_ℤ, ◌+ℤ◌, ◌-ℤ◌}
-use Rattle.std.proofs.Math.Option.{Option, none, some}
+use Rattle.std.specs.Prelude.{None, Option, Some, ℕ, zero, suc, ◌*◌, ◌^◌, Bool, true, cond, List, [], ◌∷◌, ◌++◌, ◌≡◌, ltb, ℤ, pos, negsuc, neg_ℤ, ◌+ℤ◌, ◌-ℤ◌}
 use Rattle.labels.specs.Bytes.{is_name, is_number, decimal, spaces}
 
 pub data Sign : Type 0 where
@@ -53,8 +52,8 @@ dif a b = pos a -ℤ pos b
 
 -- "A label means its byte address": where an instruction stands i instructions from the start, counted from the one at base
 abbrev pub distance : ℕ → Option ℕ → Option ℤ
-distance base none = none
-distance base (some i) = some (dif (4 * i) (4 * base))
+distance base None = None
+distance base (Some i) = Some (dif (4 * i) (4 * base))
 
 -- "Every intermediate sum fits a signed 64-bit number"
 abbrev pub fits64 : ℤ → Bool
@@ -62,11 +61,11 @@ fits64 (pos n) = ltb n (2 ^ 63)
 fits64 (negsuc n) = ltb n (2 ^ 63)
 
 unfoldable pub checked : ℤ → Option ℤ
-checked z = cond (fits64 z) (some z) none
+checked z = cond (fits64 z) (Some z) None
 
 unfoldable pub known : Option ℤ → Option ℤ
-known none = none
-known (some z) = checked z
+known None = None
+known (Some z) = checked z
 
 abbrev pub signed : Sign → ℕ → ℤ
 signed unsigned n = pos n
@@ -78,16 +77,16 @@ join add v w = v +ℤ w
 join sub v w = v -ℤ w
 
 unfoldable pub both : Op → Option ℤ → Option ℤ → Option ℤ
-both op none w = none
-both op (some v) none = none
-both op (some v) (some w) = checked (join op v w)
+both op None w = None
+both op (Some v) None = None
+both op (Some v) (Some w) = checked (join op v w)
 
 -- left to right, where `look` gives the labels' values, and parentheses nest at most d deep
 unfoldable mutual
   pub term_value : Term → (List ℕ → Option ℤ) → ℕ → Option ℤ
   term_value (number s ds h) look d = checked (signed s (decimal ds))
   term_value (label name h) look d = known (look name)
-  term_value (group g t r k) look zero = none
+  term_value (group g t r k) look zero = None
   term_value (group g t r k) look (suc d) = rest_value r look d (term_value t look d)
 
   pub rest_value : Rest → (List ℕ → Option ℤ) → ℕ → Option ℤ → Option ℤ

@@ -1,9 +1,10 @@
 -- "Printing any decodable program and assembling the print gives the same words." Assumes nothing.
+use Rattle.std.specs.Prelude.{None, Option, Some, Err, Ok, Result}
+use Rattle.refusal.specs.declared.Refusal.{Refusal}
 use mathlib.Core.Path.{◌≡◌, refl, sym, ap, ◌∙◌, fun_ext}
 use mathlib.Core.Logic.{⊎_elim}
 use mathlib.Core.Bool.{Bool, true, false, cond, ◌&&◌, not}
 use mathlib.Core.List.{List, [], ◌∷◌, ◌++◌, map}
-use mathlib.Core.Option.{Option, none, some}
 use Prim.Native.Nat.{ℕ, suc, ◌+◌, ◌-◌, ◌^◌, ◌≤◌, ◌<◌}
 use native.Mathlib.Omega.{arith}
 use native.Mathlib.Nat.{pow-le-pow_right}
@@ -28,10 +29,6 @@ use Rattle.instruction.specs.declared.Parts.{Parts}
 use Rattle.instruction.proofs.Wholes.{kept, parts-kept}
 use Rattle.refusal.specs.Stops.{refusal_of}
 use Rattle.words.specs.Words.{parts_fit, encoded_in, decode_in, word_of}
-use Rattle.words.specs.declared.Encoded.{Encoded}
-use Rattle.words.specs.declared.Encoded.TheVariants as E
-use Rattle.words.specs.declared.Decoded.{Decoded}
-use Rattle.words.specs.declared.Decoded.TheVariants as D
 use Rattle.words.proofs.OneWord.{document}
 use Rattle.names.specs.Names.{name_of, register_text}
 use Rattle.labels.specs.Bytes.{is_digit, every}
@@ -52,7 +49,7 @@ use Rattle.text.specs.Statements.{RoundTrip}
 pub record Numeral (n : ℕ) : Type 0 where
   pub tree : Sum
   pub text : sum_text tree ≡ number_text n
-  pub value : (look : List ℕ → Option ℤ) → (v : ℤ) × (sum_value tree look 16 ≡ some v) × (of_z w64 v ≡ n)
+  pub value : (look : List ℕ → Option ℤ) → (v : ℤ) × (sum_value tree look 16 ≡ Some v) × (of_z w64 v ≡ n)
 
 single : Term → Sum
 single t = record { first = t; rest = done }
@@ -67,7 +64,7 @@ numeral n h = go (ltb n (2 ^ 63)) refl
         record {
           tree = single (number unsigned (digits_by 20 n) w.some);
           text = append-none (digits_by 20 n) ∙ ap (λ (c : Bool). cond c (digits_by 20 n) (45 ∷ digits_by 20 (2 ^ 64 - n))) (sym e);
-          value = λ look. (pos n, ap (λ (m : ℕ). cond (ltb m (2 ^ 63)) (some (pos m)) none) w.value ∙ ap (λ (c : Bool). cond c (some (pos n)) none) e, refl);
+          value = λ look. (pos n, ap (λ (m : ℕ). cond (ltb m (2 ^ 63)) (Some (pos m)) None) w.value ∙ ap (λ (c : Bool). cond c (Some (pos n)) None) e, refl);
         }
     go false e =
         let l = ltb-false n (2 ^ 63) e in
@@ -78,14 +75,14 @@ numeral n h = go (ltb n (2 ^ 63)) refl
         record {
           tree = single (number minus (digits_by 20 (2 ^ 64 - n)) w.some);
           text = append-none (45 ∷ digits_by 20 (2 ^ 64 - n)) ∙ ap (λ (c : Bool). cond c (digits_by 20 n) (45 ∷ digits_by 20 (2 ^ 64 - n))) (sym e);
-          value = λ look. (negsuc k, ap (λ (m : ℕ). cond (fits64 (neg_ℤ (pos m))) (some (neg_ℤ (pos m))) none) (w.value ∙ m) ∙ ap (λ (c : Bool). cond c (some (negsuc k)) none) f, omega arith);
+          value = λ look. (negsuc k, ap (λ (m : ℕ). cond (fits64 (neg_ℤ (pos m))) (Some (neg_ℤ (pos m))) None) (w.value ∙ m) ∙ ap (λ (c : Bool). cond c (Some (negsuc k)) None) f, omega arith);
         }
 
 -- ---- an instruction's operands
 pub record Arguments (f : Form) (p : Parts) : Type 0 where
   pub operands : Operands (kinds_of f)
   pub text : arguments_text operands ≡ spelled (operand_texts f p)
-  pub values : (look : List ℕ → Option ℤ) → (vs : List ℤ) × (operands_values operands look ≡ some vs) × (parts_by p.op f vs ≡ kept f p)
+  pub values : (look : List ℕ → Option ℤ) → (vs : List ℤ) × (operands_values operands look ≡ Some vs) × (parts_by p.op f vs ≡ kept f p)
 
 narrow : (h n : ℕ) → h ≤ 63 → fits_in h n ≡ true → n < 2 ^ 64
 narrow h n l e = ⊎_elim (λ w. small (2 ^ h) w (power h l)) (λ w. w.1) (fits-means h n e)
@@ -112,9 +109,9 @@ module _ (p : Parts) (a : ltb p.a 16 ≡ true) (b : ltb p.b 16 ≡ true) (c : lt
   unfolding with_number operands_text
   two-text n = ap (λ (t : List ℕ). 32 ∷ (register_text p.a ++ (44 ∷ (32 ∷ (register_text p.b ++ (44 ∷ (32 ∷ (t ++ [])))))))) n.text
 
-  two-values : (n : Numeral p.imm) (look : List ℕ → Option ℤ) → operands_values (with_number n) look ≡ some (pos p.a ∷ (pos p.b ∷ ((n.value look).0 ∷ [])))
+  two-values : (n : Numeral p.imm) (look : List ℕ → Option ℤ) → operands_values (with_number n) look ≡ Some (pos p.a ∷ (pos p.b ∷ ((n.value look).0 ∷ [])))
   unfolding with_number operands_values
-  two-values n look = ap (λ (o : Option ℤ). pushed (some (pos p.a)) (pushed (some (pos p.b)) (pushed o (some [])))) (n.value look).1
+  two-values n look = ap (λ (o : Option ℤ). pushed (Some (pos p.a)) (pushed (Some (pos p.b)) (pushed o (Some [])))) (n.value look).1
 
   -- the four forms with two registers and a number
   two : (f : Form) → (n : Numeral p.imm) → (to : Operands (kinds_of I) → Operands (kinds_of f))
@@ -132,7 +129,7 @@ module _ (p : Parts) (a : ltb p.a 16 ≡ true) (b : ltb p.b 16 ≡ true) (c : lt
   jump n = record {
     operands = more 0 (reg p.a a) 0 (last 1 (sum n.tree) 0);
     text = ap (λ (t : List ℕ). 32 ∷ (register_text p.a ++ (44 ∷ (32 ∷ (t ++ []))))) n.text;
-    values = λ look. (pos p.a ∷ ((n.value look).0 ∷ []), ap (λ (o : Option ℤ). pushed (some (pos p.a)) (pushed o (some []))) (n.value look).1, ap (λ (i : ℕ). record { op = p.op; a = p.a; b = 0; c = 0; imm = i }) (n.value look).2);
+    values = λ look. (pos p.a ∷ ((n.value look).0 ∷ []), ap (λ (o : Option ℤ). pushed (Some (pos p.a)) (pushed o (Some []))) (n.value look).1, ap (λ (i : ℕ). record { op = p.op; a = p.a; b = 0; c = 0; imm = i }) (n.value look).2);
   }
 
   arguments : (f : Form) → imm_fits f p.imm ≡ true → Arguments f p
@@ -180,20 +177,20 @@ fit p h k =
     let z = both_true (ltb p.a 16) (ltb p.b 16) y.0 in
     printed p k (arguments p z.0 z.1 y.1 (form_of p.op) x.1)
 
-made-fits : (p : Parts) (w : ℕ) → encoded_in opcode_number p ≡ E.Word w → parts_fit p ≡ true
+made-fits : (p : Parts) (w : ℕ) → encoded_in opcode_number p ≡ Ok w → parts_fit p ≡ true
 unfolding encoded_in
 made-fits p w = go (parts_fit p)
   where
-    go : (c : Bool) → cond c (E.Word (word_of (form_of p.op) (opcode_number p.op) p)) (E.Refused (refusal_of 9 0)) ≡ E.Word w → c ≡ true
+    go : (c : Bool) → cond c (Ok (word_of (form_of p.op) (opcode_number p.op) p)) (Err (refusal_of 9 0)) ≡ Ok w → c ≡ true
     go true e = refl
     go false e = absurd (let z : ◌≡◌ {A = ℕ} 0 1 = cc in omega arith)
 
 -- what a decoded instruction prints is read as its word
-line-back : (w : ℕ) (i : Instruction) → w < 2 ^ 32 → decode_in opcode_number w ≡ D.Instruction i → reader (print_line (parts_of i)) ≡ (λ look. word w)
+line-back : (w : ℕ) (i : Instruction) → w < 2 ^ 32 → decode_in opcode_number w ≡ Ok i → reader (print_line (parts_of i)) ≡ (λ look. word w)
 line-back w i h e =
-    let made : encoded_in opcode_number (parts_of i) ≡ E.Word w = document.made_again w i h e in
+    let made : encoded_in opcode_number (parts_of i) ≡ Ok w = document.made_again w i h e in
     let p = fit (parts_of i) (made-fits (parts_of i) w made) (parts-kept i) in
-    fun_ext (λ look. ap (line_read look) (sym p.text) ∙ line-complete look p.tree ∙ p.tells look ∙ ap (λ (x : Encoded). saying_of (word_made x)) made)
+    fun_ext (λ look. ap (line_read look) (sym p.text) ∙ line-complete look p.tree ∙ p.tells look ∙ ap (λ (x : Result ℕ Refusal). saying_of (word_made x)) made)
 
 -- ---- the lines of a print
 plain : ℕ → Bool
@@ -284,10 +281,10 @@ readers (w ∷ ws) t h e = go (decode_in opcode_number w) (print_of ws) refl ref
     small : (ltb w (2 ^ 32) ≡ true) × (every (λ w. ltb w (2 ^ 32)) ws ≡ true)
     small = both_true (ltb w (2 ^ 32)) (every (λ w. ltb w (2 ^ 32)) ws) h
 
-    go : (d : Decoded) (p : Printed) → decode_in opcode_number w ≡ d → print_of ws ≡ p → printed_by d p ≡ text t
+    go : (d : Result Instruction Refusal) (p : Printed) → decode_in opcode_number w ≡ d → print_of ws ≡ p → printed_by d p ≡ text t
         → ((t : List ℕ) → every (λ w. ltb w (2 ^ 32)) ws ≡ true → print_of ws ≡ text t → map reader (lines_of t) ≡ constant ws)
         → map reader (lines_of t) ≡ (λ look. word w) ∷ constant ws
-    go (D.Instruction i) (text u) ed ep e ih =
+    go (Ok i) (text u) ed ep e ih =
         let b = ltb-true w (2 ^ 32) small.0 in
         let fits = made-fits (parts_of i) w (document.made_again w i b ed) in
         let q : print_line (parts_of i) ++ (10 ∷ u) ≡ t = cc in
@@ -295,8 +292,8 @@ readers (w ∷ ws) t h e = go (decode_in opcode_number w) (print_of ws) refl ref
         ∙ ap (map reader) (line-print (print_line (parts_of i)) u (line_plain (parts_of i) fits))
         ∙ ap (λ (f : Teller). f ∷ map reader (lines_of u)) (line-back w i b ed)
         ∙ ap ((λ look. word w) ∷◌) (ih u small.1 ep)
-    go (D.Instruction i) (undecodable r) ed ep e ih = absurd (let z : ◌≡◌ {A = ℕ} 0 1 = cc in omega arith)
-    go (D.Refused r) p ed ep e ih = absurd (let z : ◌≡◌ {A = ℕ} 0 1 = cc in omega arith)
+    go (Ok i) (undecodable r) ed ep e ih = absurd (let z : ◌≡◌ {A = ℕ} 0 1 = cc in omega arith)
+    go (Err r) p ed ep e ih = absurd (let z : ◌≡◌ {A = ℕ} 0 1 = cc in omega arith)
 
 pub assembled : (ws : List ℕ) (labels : List _) (line own : ℕ) (seen : List _) → assemble_from (constant ws) labels line own seen ≡ made ws
 unfolding constant assemble_from

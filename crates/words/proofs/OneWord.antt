@@ -1,4 +1,6 @@
 -- Each instruction that fits has one word, and each word that is read has one instruction: in any numbering below 128 without repeats.
+use Rattle.refusal.specs.declared.Refusal.{Refusal}
+use Rattle.std.specs.Prelude.{Err, None, Ok, Option, Result, Some}
 use Prim.Native.Nat.{ℕ, ◌/◌, ◌%◌, ◌^◌, ◌<◌}
 use native.Mathlib.Omega.{arith}
 use native.Mathlib.Nat.{mod-mod}
@@ -19,13 +21,8 @@ use Rattle.words.specs.Words.{apart_of, found_apart, take_in, decoded_of, decode
 use Rattle.opcode.specs.declared.Opcode.{Opcode}
 use Rattle.opcode.specs.declared.Form.{Form}
 use Rattle.opcode.specs.declared.Form.TheVariants.{R, I, Shift, S, B, J, Alone}
-use Rattle.opcode.specs.declared.Found.{Found}
-use Rattle.opcode.specs.declared.Found.TheVariants.{Op, Nothing}
 use Rattle.instruction.specs.declared.Instruction.{Instruction}
 use Rattle.instruction.specs.declared.Parts.{Parts}
-use Rattle.words.specs.declared.Taken.TheVariants as T
-use Rattle.words.specs.declared.Decoded.TheVariants as D
-use Rattle.words.specs.declared.Encoded.TheVariants as E
 use Rattle.opcode.proofs.Numberings.{Numbering, found, number-found, opcode_number-numbers}
 use Rattle.instruction.proofs.Wholes.{kept, kept_op, joined-parts, parts-joined, joined-kept, parts-kept}
 
@@ -160,16 +157,16 @@ module _ (op : Opcode) (w : ℕ) (h : w < 2 ^ 32) where
 -- ---- words and instructions
 
 module _ (num : Opcode → ℕ) where
-  word-of : (p : Parts) (w : ℕ) → encoded_in num p ≡ E.Word w → (parts_fit p ≡ true) × (word_of (form_of p.op) (num p.op) p ≡ w)
+  word-of : (p : Parts) (w : ℕ) → encoded_in num p ≡ Ok w → (parts_fit p ≡ true) × (word_of (form_of p.op) (num p.op) p ≡ w)
   unfolding encoded_in
   word-of p w e = by (parts_fit p) refl e
     where
-      by : (t : Bool) → parts_fit p ≡ t → cond t (E.Word (word_of (form_of p.op) (num p.op) p)) (E.Refused Malformed) ≡ E.Word w
+      by : (t : Bool) → parts_fit p ≡ t → cond t (Ok (word_of (form_of p.op) (num p.op) p)) (Err Malformed) ≡ Ok w
           → (parts_fit p ≡ true) × (word_of (form_of p.op) (num p.op) p ≡ w)
       by true q e = (q, cc)
       by false q e = let z : ◌≡◌ {A = ℕ} 0 1 = cc in absurd (omega arith)
 
-  pub decode-encode : Numbering num → (i : Instruction) (w : ℕ) → encode_in num i ≡ E.Word w → decode_in num w ≡ D.Instruction i
+  pub decode-encode : Numbering num → (i : Instruction) (w : ℕ) → encode_in num i ≡ Ok w → decode_in num w ≡ Ok i
   unfolding take_in found_apart apart_of decoded_of
   decode-encode N i w e =
       let p = parts_of i in
@@ -179,7 +176,7 @@ module _ (num : Opcode → ℕ) where
       let s : Shows (num op) w (used_bits f) (kept f (read f op w)) (kept f p) =
       subst (λ (v : ℕ). Shows (num op) v (used_bits f) (kept f (read f op v)) (kept f p)) x.1 (shows (num op) p (N.below op) f (fits-holds p x.0)) in
       rw (s.number, found num N op, eq-eqb (w / 2 ^ used_bits f) 0 s.unused)
-      (ap D.Instruction
+      (ap Ok
       (sym (joined-kept (read f op w)) ∙ ap instruction_of (s.operands ∙ sym (parts-kept i)) ∙ joined-parts i))
 
   -- what is known of a word that is read
@@ -189,12 +186,12 @@ module _ (num : Opcode → ℕ) where
     parts : parts_of i ≡ kept (form_of op) (read (form_of op) op w)
     unused : w / 2 ^ used_bits (form_of op) ≡ 0
 
-  reads : (w : ℕ) (i : Instruction) → decode_in num w ≡ D.Instruction i → Read w i
+  reads : (w : ℕ) (i : Instruction) → decode_in num w ≡ Ok i → Read w i
   unfolding take_in found_apart apart_of decoded_of
   reads w i e = by (opcode_in num (field 0 7 w)) refl e
     where
-      apart : (op : Opcode) → opcode_in num (field 0 7 w) ≡ Op op → (t : Bool) → eqb (w / 2 ^ used_bits (form_of op)) 0 ≡ t
-          → decoded_of (cond t (T.Apart (read (form_of op) op w)) (T.Refused (UnusedBits w))) ≡ D.Instruction i → Read w i
+      apart : (op : Opcode) → opcode_in num (field 0 7 w) ≡ Some op → (t : Bool) → eqb (w / 2 ^ used_bits (form_of op)) 0 ≡ t
+          → decoded_of (cond t (Ok (read (form_of op) op w)) (Err (UnusedBits w))) ≡ Ok i → Read w i
       apart op o true q e =
           let j : i ≡ instruction_of (read (form_of op) op w) = cc in
           record {
@@ -205,19 +202,19 @@ module _ (num : Opcode → ℕ) where
           }
       apart op o false q e = let z : ◌≡◌ {A = ℕ} 0 1 = cc in absurd (omega arith)
 
-      by : (o : Found) → opcode_in num (field 0 7 w) ≡ o → decoded_of (found_apart o w) ≡ D.Instruction i → Read w i
-      by (Op op) o e = apart op o (eqb (w / 2 ^ used_bits (form_of op)) 0) refl e
-      by Nothing o e = let z : ◌≡◌ {A = ℕ} 0 1 = cc in absurd (omega arith)
+      by : (o : Option Opcode) → opcode_in num (field 0 7 w) ≡ o → decoded_of (found_apart o w) ≡ Ok i → Read w i
+      by (Some op) o e = apart op o (eqb (w / 2 ^ used_bits (form_of op)) 0) refl e
+      by None o e = let z : ◌≡◌ {A = ℕ} 0 1 = cc in absurd (omega arith)
 
   word_made : (p : Parts) (op : Opcode) (n w : ℕ) → p.op ≡ op → num op ≡ n → Fits p (imm_fits (form_of op) p.imm)
-      → word_of (form_of op) n p ≡ w → encoded_in num p ≡ E.Word w
+      → word_of (form_of op) n p ≡ w → encoded_in num p ≡ Ok w
   unfolding encoded_in
   word_made p op n w o k t m =
       rw (holds_fits p (form_of op) (ap form_of o) t)
-      (ap E.Word (ap₂ (λ (f : Form) (j : ℕ). word_of f j p) (ap form_of o) (ap num o ∙ k) ∙ m))
+      (ap Ok (ap₂ (λ (f : Form) (j : ℕ). word_of f j p) (ap form_of o) (ap num o ∙ k) ∙ m))
 
   -- in this direction the numbers may be any
-  pub encode-decode : (w : ℕ) (i : Instruction) → w < 2 ^ 32 → decode_in num w ≡ D.Instruction i → encode_in num i ≡ E.Word w
+  pub encode-decode : (w : ℕ) (i : Instruction) → w < 2 ^ 32 → decode_in num w ≡ Ok i → encode_in num i ≡ Ok w
   encode-decode w i h e =
       let r = reads w i e in
       let op = r.op in
@@ -227,11 +224,11 @@ module _ (num : Opcode → ℕ) where
       ∙ word_made (kept f (read f op w)) op (field 0 7 w) w (kept_op f (read f op w)) r.number m.0 m.1
 
 pub record OneWord (num : Opcode → ℕ) : Type 0 where
-  pub read_again : (i : Instruction) (w : ℕ) → encode_in num i ≡ E.Word w → decode_in num w ≡ D.Instruction i
-  pub made_again : (w : ℕ) (i : Instruction) → w < 2 ^ 32 → decode_in num w ≡ D.Instruction i → encode_in num i ≡ E.Word w
-  pub one-instruction : (i j : Instruction) (w : ℕ) → encode_in num i ≡ E.Word w → encode_in num j ≡ E.Word w → i ≡ j
+  pub read_again : (i : Instruction) (w : ℕ) → encode_in num i ≡ Ok w → decode_in num w ≡ Ok i
+  pub made_again : (w : ℕ) (i : Instruction) → w < 2 ^ 32 → decode_in num w ≡ Ok i → encode_in num i ≡ Ok w
+  pub one-instruction : (i j : Instruction) (w : ℕ) → encode_in num i ≡ Ok w → encode_in num j ≡ Ok w → i ≡ j
   pub one_word : (v w : ℕ) (i : Instruction) → v < 2 ^ 32 → w < 2 ^ 32
-      → decode_in num v ≡ D.Instruction i → decode_in num w ≡ D.Instruction i → v ≡ w
+      → decode_in num v ≡ Ok i → decode_in num w ≡ Ok i → v ≡ w
 
 pub numbered : (num : Opcode → ℕ) → Numbering num → OneWord num
 numbered num N =
@@ -242,10 +239,10 @@ numbered num N =
       one_word = λ v w i h k p q. same_word (sym (encode-decode num v i h p) ∙ encode-decode num w i k q);
     }
   where
-    same-instruction : {i j : Instruction} → D.Instruction i ≡ D.Instruction j → i ≡ j
+    same-instruction : {i j : Instruction} → ◌≡◌ {A = Result Instruction Refusal} (Ok i) (Ok j) → i ≡ j
     same-instruction e = cc
 
-    same_word : {v w : ℕ} → E.Word v ≡ E.Word w → v ≡ w
+    same_word : {v w : ℕ} → ◌≡◌ {A = Result ℕ Refusal} (Ok v) (Ok w) → v ≡ w
     same_word e = cc
 
 -- in particular in document 01

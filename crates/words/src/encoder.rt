@@ -3,7 +3,6 @@ ghost use Rattle.std.specs.Prelude.{◌≡◌, ◌%◌, ◌^◌};
 ghost use Rattle.opcode.specs.Opcodes.{opcode_number};
 ghost use Rattle.words.specs.Words.{parts_fit, word_of, encoded_in, encode_in};
 
-use super::Encoded;
 use encoding::{encode_btype, encode_itype, encode_jtype, encode_rtype, encode_stype};
 use forms::{form_of, imm_fits};
 use instruction::{Instruction, Parts, parts_of};
@@ -52,18 +51,18 @@ fn word_of(f: Form, n: u32, p: Parts) -> u32
 }
 
 // The word of operands, with no instruction built.
-pub fn encode_parts(p: Parts) -> Encoded
+pub fn encode_parts(p: Parts) -> Result<u32, Refusal>
     ensures { result ≡ encoded_in opcode_number p }
 {
     let op = p.op;
     if parts_fit(p) {
-        Encoded::Word(word_of(form_of(op), whole(opcode_number(op)), p))
+        Ok(word_of(form_of(op), whole(opcode_number(op)), p))
     } else {
-        Encoded::Refused(Refusal::Malformed)
+        Err(Refusal::Malformed)
     }
 }
 
-pub fn encode(i: Instruction) -> Encoded
+pub fn encode(i: Instruction) -> Result<u32, Refusal>
     ensures { result ≡ encode_in opcode_number i }
 {
     encode_parts(parts_of(i))

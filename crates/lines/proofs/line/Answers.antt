@@ -1,5 +1,5 @@
-use Rattle.std.proofs.Common.{drop, sym, ap, ◌∙◌}
-use Rattle.opcode.specs.declared.Found.{Found}
+use Rattle.opcode.specs.declared.Opcode.{Opcode}
+use Rattle.std.proofs.Common.{Option, drop, sym, ap, ◌∙◌}
 use Rattle.lines.specs.Lines.{named}
 use Rattle.lines.specs.Reader.{instruction_read}
 use Rattle.lines.specs.Code.{labels_in, said_of}
@@ -12,7 +12,7 @@ returns-in_default c =
     let look = labels_in a.text.now a.table.now a.own in
     began a.s.now c.start_of.result _
     c.start_of.ensures c.in-Word.is look
-    ∙ ap (λ (f : Found). instruction_read f look (drop c.in-Word.n a.s.now))
+    ∙ ap (λ (f : Option Opcode). instruction_read f look (drop c.in-Word.n a.s.now))
     (sym c.named.ensures ∙ c.in_default.is)
 
 pub returns-in-Blank : goal.returns-in-Blank
@@ -25,15 +25,15 @@ returns-in-Label c =
     c.start_of.ensures c.in-Label.is in
     w.0 _ ∙ ap named w.1.0
 
-pub returns-in-Op : goal.returns-in-Op
-returns-in-Op c =
+pub returns-in-Some : goal.returns-in-Some
+returns-in-Some c =
     let a = c.args in
     let look = labels_in a.text.now a.table.now a.own in
     began a.s.now c.start_of.result _
     c.start_of.ensures
     c.in-Word.is look
-    ∙ ap (λ (f : Found). instruction_read f look (drop c.in-Word.n a.s.now))
-    (sym c.named.ensures ∙ c.in-Op.is)
+    ∙ ap (λ (f : Option Opcode). instruction_read f look (drop c.in-Word.n a.s.now))
+    (sym c.named.ensures ∙ c.in-Some.is)
     ∙ c.instruction.ensures
     ∙ word-said a.s.now c.instruction.result
     ∙ ap (said_of a.s.now) (sym c.word_or_bad.ensures)

@@ -1,6 +1,5 @@
 use Rattle.normalize.proofs.Cases.{whole-written}
-use Rattle.state.specs.Registers.{registers}
 use Rattle.normalize.proofs.made_whole.Goals as goal
 
 pub returns : goal.returns
-returns c = let a = c.args in rw c.together.ensures (whole-written a.s a.reg a.v (registers _ _ _) (rw (← c.bound_at-bound.ensures) c.write.ensures))
+returns c = let a = c.args in rw c.together.ensures (whole-written a.s a.reg a.v _ (rw (← c.bound_at-bound.ensures) c.write.ensures))

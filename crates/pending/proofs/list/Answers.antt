@@ -1,10 +1,10 @@
 use Rattle.pending.specs.Pending.{listing}
 use Rattle.pending.proofs.list.Goals as goal
 
-pub returns-in-Nothing : goal.returns-in-Nothing
+pub returns-in-None : goal.returns-in-None
 unfolding listing
-returns-in-Nothing c = rw c.in-Nothing.is
+returns-in-None c = rw c.in-None.is
 
-pub returns-in-One : goal.returns-in-One
+pub returns-in-Some : goal.returns-in-Some
 unfolding listing
-returns-in-One c = rw c.in-One.is c.note.ensures
+returns-in-Some c = rw c.in-Some.is c.note.ensures

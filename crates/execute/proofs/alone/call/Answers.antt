@@ -10,4 +10,4 @@ use Rattle.execute.proofs.alone.call.Goals as goal
 
 pub returns : goal.returns
 unfolding seen effect
-returns c = λ m. not-on-limbs _ _ _ Ecall _ _ _ (no-limb-form _ _ F.Alone O.Ecall 0 0 0 0 _ refl refl) (rw (c.plus.ensures, c.settle_all.ensures _) (went_call _ _ _ _) ∙ decided c.args.start Ecall _ m _ _ refl refl)
+returns c = λ m. not-on-limbs _ _ _ Ecall _ _ _ (no-limb-form _ _ F.Alone O.Ecall 0 0 0 0 _ refl refl) (rw (c.plus.ensures, c.settle_all.ensures) (went_call _ _ _ _) ∙ decided c.args.start Ecall _ m _ _ refl refl)

@@ -5,8 +5,8 @@ use Rattle.execute.proofs.alone.settle_all.Goals as goal
 
 pub returns-in-Deferred : goal.returns-in-Deferred
 unfolding settle_sources sources normalise_each normalise_to
-returns-in-Deferred c = λ bs. rw c.in-Deferred.is (c.normalise_all.ensures bs)
+returns-in-Deferred c = rw c.in-Deferred.is (c.normalise_all.ensures)
 
 pub returns-in-Plain : goal.returns-in-Plain
 unfolding settle_sources
-returns-in-Plain c = λ bs. rw c.in-Plain.is
+returns-in-Plain c = rw c.in-Plain.is

@@ -1,10 +1,10 @@
 use Rattle.exports.specs.Coding.{given_of}
 use Rattle.exports.proofs.coding.given.Goals as goal
 
-pub returns-in-Op : goal.returns-in-Op
+pub returns-in-Some : goal.returns-in-Some
 unfolding given_of
-returns-in-Op c = rw (c.instruction_of.ensures, ← c.opcode_of.ensures, c.in-Op.is)
+returns-in-Some c = rw (c.instruction_of.ensures, ← c.opcode_of.ensures, c.in-Some.is)
 
-pub returns-in-Nothing : goal.returns-in-Nothing
+pub returns-in-None : goal.returns-in-None
 unfolding given_of
-returns-in-Nothing c = rw (← c.opcode_of.ensures, c.in-Nothing.is)
+returns-in-None c = rw (← c.opcode_of.ensures, c.in-None.is)

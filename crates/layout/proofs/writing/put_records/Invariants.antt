@@ -1,15 +1,11 @@
-use Prim.Native.Nat.{◌≤◌, ◌-◌}
+use Prim.Native.Nat.{◌-◌}
 use lib.Seq.{sets}
 use lib.ListN.{length}
 use mathlib.Core.Path.{◌≡◌}
-use Rattle.state.specs.Registers.{registers}
 use Rattle.layout.specs.Layout.{HEADER_BYTES, record_at, records}
 use Rattle.layout.proofs.writing.put_records.Given as goal
 
 abbrev pub invariant-loop-i : goal.invariant-loop-i
 invariant-loop-i l =
-    (length l.bytes ≡ length l.initial.bytes) × (l.i ≤ 16)
-    × (sets l.bytes (record_at l.i) (records (16 - l.i) l.i (registers l.regs l.accumulated l.bounds)) ≡ sets l.initial.bytes HEADER_BYTES (records 16 0 (registers l.regs l.accumulated l.bounds)))
-
-abbrev pub decreases-loop-i : goal.decreases-loop-i
-decreases-loop-i l = 16 - l.i
+    (length l.bytes ≡ length l.initial.bytes)
+    × (sets l.bytes (record_at l.i) (records (16 - l.i) l.i l.registers) ≡ sets l.initial.bytes HEADER_BYTES (records 16 0 l.registers))

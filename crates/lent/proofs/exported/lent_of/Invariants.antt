@@ -1,4 +1,4 @@
-use Prim.Native.Nat.{◌≤◌, ◌-◌}
+use Prim.Native.Nat.{◌-◌}
 use mathlib.Core.Path.{◌≡◌}
 use mathlib.Core.Bool.{false}
 use lib.ListN.{get_or}
@@ -9,8 +9,4 @@ use Rattle.lent.proofs.exported.lent_of.Given as goal
 
 abbrev pub invariant-loop-i : goal.invariant-loop-i
 invariant-loop-i l =
-    (l.i ≤ 16)
-    × (sets l.kinds l.i (table (16 - l.i) l.i (λ k. bit (get_or l.accumulated k false))) ≡ sets l.initial.kinds 0 (table 16 0 (λ k. bit (get_or l.accumulated k false))))
-
-abbrev pub decreases-loop-i : goal.decreases-loop-i
-decreases-loop-i l = 16 - l.i
+    sets l.kinds l.i (table (16 - l.i) l.i (λ k. bit (get_or l.registers.accumulated k false))) ≡ sets l.initial.kinds 0 (table 16 0 (λ k. bit (get_or l.registers.accumulated k false)))

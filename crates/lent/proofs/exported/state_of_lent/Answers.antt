@@ -8,8 +8,8 @@ use Rattle.layout.proofs.Rows.{table_more, filled}
 use Rattle.lent.proofs.exported.state_of_lent.Goals as goal
 
 pub loop-i-preserved : goal.loop-i-preserved
-loop-i-preserved c = (omega arith, sym (table_more c.loop-i.accumulated 16 c.loop-i.i (λ k. eqb (get_or c.args.r.kinds k 0) 1) (omega arith) refl) ∙ c.loop-i.invariant.1)
+loop-i-preserved c = sym (table_more c.loop-i.accumulated 16 c.loop-i.i (λ k. eqb (get_or c.args.r.kinds k 0) 1) (omega arith) refl) ∙ c.loop-i.invariant
 
 pub returns : goal.returns
 unfolding state_of_lent
-returns c = rw (c.together.ensures, filled 16 c.loop-i.accumulated (replicate 16 false) c.loop-i.i (λ k. eqb (get_or c.args.r.kinds k 0) 1) (omega arith) refl c.loop-i.invariant.1)
+returns c = rw (c.together.ensures, filled 16 c.loop-i.accumulated (replicate 16 false) c.loop-i.i (λ k. eqb (get_or c.args.r.kinds k 0) 1) (omega arith) refl c.loop-i.invariant)

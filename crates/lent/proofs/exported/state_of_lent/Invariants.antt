@@ -1,4 +1,4 @@
-use Prim.Native.Nat.{◌≤◌, ◌-◌}
+use Prim.Native.Nat.{◌-◌}
 use mathlib.Core.Path.{◌≡◌}
 use lib.ListN.{get_or}
 use lib.Seq.{sets}
@@ -8,8 +8,4 @@ use Rattle.lent.proofs.exported.state_of_lent.Given as goal
 
 abbrev pub invariant-loop-i : goal.invariant-loop-i
 invariant-loop-i l =
-    (l.i ≤ 16)
-    × (sets l.accumulated l.i (table (16 - l.i) l.i (λ k. eqb (get_or l.kinds k 0) 1)) ≡ sets l.initial.accumulated 0 (table 16 0 (λ k. eqb (get_or l.kinds k 0) 1)))
-
-abbrev pub decreases-loop-i : goal.decreases-loop-i
-decreases-loop-i l = 16 - l.i
+    sets l.accumulated l.i (table (16 - l.i) l.i (λ k. eqb (get_or l.kinds k 0) 1)) ≡ sets l.initial.accumulated 0 (table 16 0 (λ k. eqb (get_or l.kinds k 0) 1))

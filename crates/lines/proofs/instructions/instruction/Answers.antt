@@ -4,8 +4,7 @@ use Rattle.lines.specs.Reader.{operands_read}
 use Rattle.lines.specs.Lines.{kinds_of, word_for, saying_of}
 use Rattle.sums.specs.Code.{look_in}
 use Rattle.opcode.specs.declared.Form.{Form}
-use Rattle.std.proofs.Common.{List, [], drop, ℤ, sym, ap, ◌∙◌}
-use mathlib.Core.Option.{Option}
+use Rattle.std.proofs.Common.{Option, List, [], drop, ℤ, sym, ap, ◌∙◌}
 use Rattle.lines.proofs.instructions.instruction.Goals as goal
 
 pub returns-in-R : goal.returns-in-R

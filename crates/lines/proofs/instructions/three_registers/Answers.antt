@@ -2,8 +2,7 @@ use Rattle.lines.proofs.Words.{first-bad, first-got, last_none, last_some, none-
 use Rattle.lines.specs.Code.{reg_seen}
 use Rattle.lines.specs.Lines.{register, parts}
 use Rattle.sums.specs.Code.{look_in}
-use Rattle.std.proofs.Common.{[], ◌∷◌, drop, pos, ap, ◌∙◌}
-use mathlib.Core.Option.{none, some}
+use Rattle.std.proofs.Common.{None, Some, [], ◌∷◌, drop, pos, ap, ◌∙◌}
 use Rattle.lines.proofs.instructions.three_registers.Goals as goal
 
 pub returns-in_default : goal.returns-in_default
@@ -20,7 +19,7 @@ returns-in_default-register_comma c =
     let look = look_in [] [] 0 in
     none-word args.op _
     (first-got look register register (register ∷ []) (drop args.at s) (pos c.in-Of.a)
-    (drop c.in-Of.m s) none
+    (drop c.in-Of.m s) None
     (c.register_comma.ensures.0 ∙ ap (reg_seen s) c.in-Of.is)
     (first-bad look register register [] (drop c.in-Of.m s)
     (c.register_comma-2.ensures.0 ∙ ap (reg_seen s) c.in_default-register_comma.is)))
@@ -33,11 +32,11 @@ returns-in_default-register_last c =
     none-word args.op _
     (first-got look register register (register ∷ []) (drop args.at s)
     (pos c.in-Of.a)
-    (drop c.in-Of.m s) none
+    (drop c.in-Of.m s) None
     (c.register_comma.ensures.0
     ∙ ap (reg_seen s) c.in-Of.is)
     (first-got look register register [] (drop c.in-Of.m s)
-    (pos c.in-Of-register_comma.b) (drop c.in-Of-register_comma.n s) none
+    (pos c.in-Of-register_comma.b) (drop c.in-Of-register_comma.n s) None
     (c.register_comma-2.ensures.0 ∙ ap (reg_seen s) c.in-Of-register_comma.is)
     (last_none look register (drop c.in-Of-register_comma.n s)
     (c.register_last.ensures.0 ∙ ap (reg_seen s) c.in_default-register_last.is))))
@@ -52,12 +51,12 @@ returns c =
     let d = c.in-Of-register_last.c in
     some_word args.op _ (pos a ∷ (pos b ∷ (pos d ∷ []))) (parts args.op a b d 0)
     (first-got look register register (register ∷ []) (drop args.at s) (pos a)
-    (drop c.in-Of.m s) (some (pos b ∷ (pos d ∷ [])))
+    (drop c.in-Of.m s) (Some (pos b ∷ (pos d ∷ [])))
     (c.register_comma.ensures.0
     ∙ ap (reg_seen s) c.in-Of.is)
     (first-got look register register []
     (drop c.in-Of.m s) (pos b)
-    (drop c.in-Of-register_comma.n s) (some (pos d ∷ []))
+    (drop c.in-Of-register_comma.n s) (Some (pos d ∷ []))
     (c.register_comma-2.ensures.0
     ∙ ap (reg_seen s) c.in-Of-register_comma.is)
     (last_some look register (drop c.in-Of-register_comma.n s) (pos d) _

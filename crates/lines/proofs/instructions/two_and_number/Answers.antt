@@ -2,8 +2,7 @@ use Rattle.lines.proofs.Words.{first-bad, first-got, last_none, last_some, regis
 use Rattle.lines.specs.Code.{reg_seen}
 use Rattle.lines.specs.Lines.{register, immediate, parts}
 use Rattle.sums.specs.Code.{look_in, of64, read_to}
-use Rattle.std.proofs.Common.{[], ◌∷◌, drop, pos, ap, ◌∙◌}
-use mathlib.Core.Option.{none, some}
+use Rattle.std.proofs.Common.{None, Some, [], ◌∷◌, drop, pos, ap, ◌∙◌}
 use Rattle.lines.proofs.instructions.two_and_number.Goals as goal
 
 pub returns-in_default : goal.returns-in_default
@@ -22,7 +21,7 @@ returns-in_default-register_comma c =
     let look = look_in args.text.now args.table.now args.base in
     none-word args.op _
     (first-got look register register (immediate ∷ []) (drop args.at s) (pos c.in-Of.a)
-    (drop c.in-Of.m s) none
+    (drop c.in-Of.m s) None
     (register-any look (look_in [] [] 0) _ _
     (c.register_comma.ensures.0 ∙ ap (reg_seen s) c.in-Of.is))
     (first-bad look register immediate [] (drop c.in-Of.m s)
@@ -36,12 +35,12 @@ returns-in_default-number_last c =
     none-word args.op _
     (first-got look register register (immediate ∷ []) (drop args.at s)
     (pos c.in-Of.a)
-    (drop c.in-Of.m s) none
+    (drop c.in-Of.m s) None
     (register-any look (look_in [] [] 0) _ _
     (c.register_comma.ensures.0
     ∙ ap (reg_seen s) c.in-Of.is))
     (first-got look register immediate [] (drop c.in-Of.m s)
-    (pos c.in-Of-register_comma.b) (drop c.in-Of-register_comma.n s) none
+    (pos c.in-Of-register_comma.b) (drop c.in-Of-register_comma.n s) None
     (register-any look (look_in [] [] 0) _ _
     (c.register_comma-2.ensures.0 ∙ ap (reg_seen s) c.in-Of-register_comma.is))
     (last_none look immediate (drop c.in-Of-register_comma.n s)
@@ -58,13 +57,13 @@ returns c =
     let v = of64 c.in-Value.v in
     some_word args.op _ (pos a ∷ (pos b ∷ (v ∷ []))) (parts args.op a b 0 c.bits.result)
     (first-got look register register (immediate ∷ []) (drop args.at s) (pos a)
-    (drop c.in-Of.m s) (some (pos b ∷ (v ∷ [])))
+    (drop c.in-Of.m s) (Some (pos b ∷ (v ∷ [])))
     (register-any look (look_in [] [] 0) _ _
     (c.register_comma.ensures.0
     ∙ ap (reg_seen s) c.in-Of.is))
     (first-got look register immediate []
     (drop c.in-Of.m s) (pos b)
-    (drop c.in-Of-register_comma.n s) (some (v ∷ []))
+    (drop c.in-Of-register_comma.n s) (Some (v ∷ []))
     (register-any look (look_in [] [] 0) _ _
     (c.register_comma-2.ensures.0
     ∙ ap (reg_seen s) c.in-Of-register_comma.is))

@@ -13,12 +13,12 @@ returns-then-words-at c = rw (words-none c.loop-at.at c.args.words.now (omega ar
 pub loop-at-preserved : goal.loop-at-preserved
 loop-at-preserved c =
     let l = c.loop-at in
-    let is = sym c.parts_at.ensures ∙ c.in-Apart.is in
+    let is = sym c.parts_at.ensures ∙ c.in-Ok.is in
     let more = room-more l.at c.args.words.now (omega arith) _ is l.left in
     (omega arith, omega arith, rw (c.less-left.ensures, c.line_length.ensures) (sym more ∙ l.invariant.2))
 
-pub returns-in-Refused : goal.returns-in-Refused
-returns-in-Refused c =
+pub returns-in-Err : goal.returns-in-Err
+returns-in-Err c =
     let l = c.loop-at in
-    let is = sym c.parts_at.ensures ∙ c.in-Refused.is in
+    let is = sym c.parts_at.ensures ∙ c.in-Err.is in
     sym (room-none l.at c.args.words.now (omega arith) _ is l.left) ∙ l.invariant.2

@@ -16,19 +16,19 @@ returns-then-words-at c =
 
 pub put_line-end-requires-clause-short_registers : goal.put_line-end-requires-clause-short_registers
 put_line-end-requires-clause-short_registers c =
-    let is = sym c.parts_at.ensures ∙ c.in-Apart.is in
+    let is = sym c.parts_at.ensures ∙ c.in-Ok.is in
     taken-registers _ _ (number-below 4 c.args.words.now c.loop-at.at (λ k. (c.type_inv.words k).fits)) is
 
 pub put_line-end-requires-clause-p_in_bounds : goal.put_line-end-requires-clause-p_in_bounds
 put_line-end-requires-clause-p_in_bounds c =
     let l = c.loop-at in
-    let is = sym c.parts_at.ensures ∙ c.in-Apart.is in
+    let is = sym c.parts_at.ensures ∙ c.in-Ok.is in
     let room = rw (lines_more l.at c.args.words.now (omega arith) _ is, length-append) at l.invariant.3 in omega arith
 
 pub loop-at-preserved : goal.loop-at-preserved
 loop-at-preserved c =
     let l = c.loop-at in
-    let is = sym c.parts_at.ensures ∙ c.in-Apart.is in
+    let is = sym c.parts_at.ensures ∙ c.in-Ok.is in
     let put = c.put_line-end.ensures in
     let more = lines_more l.at c.args.words.now (omega arith) _ is in
     let room = rw (more, length-append) at l.invariant.3 in (
@@ -39,8 +39,8 @@ loop-at-preserved c =
       λ new stop rest. l.invariant.4 new stop (rw more (both put rest)),
     )
 
-pub returns-in-Refused : goal.returns-in-Refused
-returns-in-Refused c =
+pub returns-in-Err : goal.returns-in-Err
+returns-in-Err c =
     let l = c.loop-at in
-    let is = sym c.parts_at.ensures ∙ c.in-Refused.is in
+    let is = sym c.parts_at.ensures ∙ c.in-Err.is in
     l.invariant.4 l.text l.end (rw (lines_none l.at c.args.words.now (omega arith) _ is) (no_byte l.text l.end))
