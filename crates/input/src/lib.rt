@@ -2,7 +2,7 @@
 // promises say which of them came; of standard input nothing can be known.
 #![tactic(auto)]
 
-ghost use Rattle.std.specs.Prelude.{◌≡◌, ◌<◌, ◌≤◌, length, take, nat_lt, IfOk, IfSome, MatchOption};
+ghost use Rattle.std.specs.Prelude.{◌≡◌, ◌<◌, length, take, nat_lt, IfOk, IfSome, MatchOption};
 ghost use Rattle.std.specs.Io.{ReadsAtMost};
 ghost use Rattle.std.specs.Io.KnownBytes.{Consumes, IsAtEnd};
 
@@ -10,7 +10,8 @@ use std::alloc::Global;
 use std::io;
 use std::io::Read;
 
-// Fills the front of a buffer with what comes, and answers how many bytes came: as many as there is room for, or all.
+// Fills the front of a buffer with what comes, and answers how many bytes came: as many as there is room for, or all. The loop is its
+// own, since `read_exact` does not say how many came where they are fewer.
 pub fn fill<R: Read>(reader: &mut R, buffer: &mut [u8]) -> io::Result<usize>
     ensures bound { ReadsAtMost result buffer.new }
     ensures bytes { IfOk result (λ n. Consumes (R.remaining reader.old) (R.remaining reader.new) (take n buffer.new)) }
