@@ -1,57 +1,74 @@
-// What is wrong with a line that is bad: it is read from left to right until the first mistake.
-use crate::operands::operands;
-use crate::read::{DEFINED_AGAIN, FOREIGN_BYTE, NO_INSTRUCTION, NO_NAME, NOT_ALONE, Read, past};
-use forms::form_of;
-use labels::table::name_at;
-use labels::text::{byte, digit, letter, skip};
-use names::named;
-use opcode::Found;
+// What can be wrong with a line, and how a bad line is told.
+use std::fmt;
 
-fn is_foreign(c: u8) -> bool {
-    match c {
-        b' ' | b'+' | b'-' | b'(' | b')' | b',' | b':' => false,
-        _ => !letter(c) && !digit(c),
-    }
+// Numbered as in docs/mistakes.txt.
+#[derive(Clone, Copy)]
+pub enum Mistake {
+    ForeignByte = 1,
+    NoName,
+    NotAlone,
+    DefinedAgain,
+    NoInstruction,
+    NoOperand,
+    NoRegister,
+    NoComma,
+    NoTerm,
+    LoneSign,
+    LargeNumber,
+    UnknownLabel,
+    TooDeep,
+    NotClosed,
+    LargeSum,
+    TooMuch,
+    LargeImmediate,
+    LargeOffset,
+    LargeAmount,
 }
 
-// The place of the first foreign byte, or the end.
-fn first_foreign(s: &[u8]) -> usize {
-    let mut at: usize = 0;
-    while at < s.len() {
-        if is_foreign(s[at]) {
-            return at;
+impl Mistake {
+    pub fn at(self, rest: &[u8]) -> Wrong<'_> {
+        Wrong {
+            mistake: self,
+            rest,
+            value: None,
         }
-        at += 1;
     }
-    at
+
+    pub fn of(self, value: i64, rest: &[u8]) -> Wrong<'_> {
+        Wrong {
+            mistake: self,
+            rest,
+            value: Some(value),
+        }
+    }
 }
 
-// The definition of a label, from behind its colon on. It is bad if an earlier line has the same.
-fn definition(s: &[u8], name: usize, at: usize) -> Read {
-    let n = skip(s, at);
-    if n < s.len() {
-        return Read::Wrong(NOT_ALONE, n);
-    }
-    Read::Wrong(DEFINED_AGAIN, name)
+// A mistake, the line from it on, and the value that does not fit its field.
+#[derive(Clone, Copy)]
+pub struct Wrong<'a> {
+    mistake: Mistake,
+    rest: &'a [u8],
+    value: Option<i64>,
 }
 
-// In a line of a text whose labels are in a table, where `own` instructions stand before it.
-pub fn mistake_in(s: &[u8], text: &[u8], table: &[u64], own: u64) -> Read {
-    let foreign = first_foreign(s);
-    if foreign < s.len() {
-        return Read::Wrong(FOREIGN_BYTE, foreign);
+// A line of a text by its number, and its first mistake.
+#[derive(Drop)]
+pub struct BadLine<'a> {
+    pub number: u64,
+    pub bytes: &'a [u8],
+    pub wrong: Wrong<'a>,
+}
+
+impl fmt::Display for BadLine<'_> {
+    fn fmt<W: fmt::Write>(&self, f: &mut fmt::Formatter<W>) -> fmt::Result {
+        let number = self.number;
+        let wrong = self.wrong;
+        let mistake = wrong.mistake as u8;
+        let column = (self.bytes.len() + 1).saturating_sub(wrong.rest.len());
+        write!(f, "line {number} mistake {mistake} column {column}")?;
+        if let Some(value) = wrong.value {
+            write!(f, " value {value}")?;
+        }
+        Ok(())
     }
-    let at = skip(s, 0);
-    if !letter(byte(s, at)) {
-        return Read::Wrong(NO_NAME, at);
-    }
-    let name = name_at(s, at);
-    let behind = skip(s, name.after);
-    if byte(s, behind) == b':' {
-        return definition(s, at, past(s, behind));
-    }
-    let Found::Op(op) = named(name.key) else {
-        return Read::Wrong(NO_INSTRUCTION, at);
-    };
-    operands(s, text, table, own, form_of(op), name.after)
 }

@@ -1,123 +1,103 @@
 // The operands of an instruction. Its line is bad, so that what could be wrong last of all is wrong if nothing before is.
-use crate::read::{
-    LARGE_AMOUNT, LARGE_IMMEDIATE, LARGE_OFFSET, NO_COMMA, NO_OPERAND, NO_REGISTER, Read, TOO_MUCH,
-    past,
-};
+use crate::mistake::{Mistake, Wrong};
+use crate::splitting::split_name;
+use crate::table::Labels;
 use crate::terms::sum;
-use labels::table::name_at;
-use labels::text::{byte, digit, skip};
 use opcode::Form;
+use std::convert::Infallible;
 
 // How deep parentheses nest.
 const DEPTH: u8 = 16;
 
-// Where an operand begins.
-fn operand(s: &[u8], at: usize) -> Read {
-    let n = skip(s, at);
-    if s.len() <= n {
-        return Read::Wrong(NO_OPERAND, n);
+// An operand or a comma, with the spaces before it skipped.
+fn operand(rest: &[u8]) -> Result<&[u8], Wrong<'_>> {
+    let rest = rest.trim_ascii_start();
+    if rest.is_empty() {
+        return Err(Mistake::NoOperand.at(rest));
     }
-    Read::Passed(n)
+    Ok(rest)
 }
 
-fn comma(s: &[u8], at: usize) -> Read {
-    let start = operand(s, at);
-    let Read::Passed(n) = start else {
-        return start;
-    };
-    if byte(s, n) != b',' {
-        return Read::Wrong(NO_COMMA, n);
+// What is behind a comma.
+fn comma(rest: &[u8]) -> Result<&[u8], Wrong<'_>> {
+    match operand(rest)? {
+        [b',', behind @ ..] => Ok(behind),
+        rest => Err(Mistake::NoComma.at(rest)),
     }
-    Read::Passed(past(s, n))
 }
 
-// Whether the name at a place is one of R0 to R15.
-fn is_register(s: &[u8], at: usize) -> bool {
-    let first = past(s, at);
-    let second = past(s, first);
-    let end = name_at(s, at).after;
-    if byte(s, at) != b'R' {
-        return false;
-    }
-    if end == second {
-        return digit(byte(s, first));
-    }
-    let last = byte(s, second);
-    end == past(s, second) && byte(s, first) == b'1' && b'0' <= last && last <= b'5'
+fn is_register(name: &[u8]) -> bool {
+    matches!(name, [b'R', b'0'..=b'9'] | [b'R', b'1', b'0'..=b'5'])
 }
 
-fn register(s: &[u8], at: usize) -> Read {
-    let start = operand(s, at);
-    let Read::Passed(n) = start else {
-        return start;
-    };
-    if !is_register(s, n) {
-        return Read::Wrong(NO_REGISTER, n);
+// What is behind a register.
+fn register(rest: &[u8]) -> Result<&[u8], Wrong<'_>> {
+    let rest = operand(rest)?;
+    let (name, behind) = split_name(rest);
+    if is_register(name) {
+        Ok(behind)
+    } else {
+        Err(Mistake::NoRegister.at(rest))
     }
-    Read::Passed(name_at(s, n).after)
 }
 
-fn next_register(s: &[u8], at: usize) -> Read {
-    let start = comma(s, at);
-    let Read::Passed(n) = start else {
-        return start;
-    };
-    register(s, n)
-}
-
-// A register and so many more, with commas between.
-fn registers(s: &[u8], at: usize, more: u8) -> Read {
-    let mut read = register(s, at);
-    let mut left = more;
-    while 0 < left {
-        let Read::Passed(n) = read else {
-            return read;
-        };
-        read = next_register(s, n);
-        left -= 1;
+// What is behind a register and so many more, with commas between.
+fn registers(rest: &[u8], more: u8) -> Result<&[u8], Wrong<'_>> {
+    let mut rest = register(rest)?;
+    for _ in 0..more {
+        rest = register(comma(rest)?)?;
     }
-    read
+    Ok(rest)
 }
 
-// After the last operand, at a place that was passed to.
-fn too_much(s: &[u8], before: Read) -> Read {
-    let Read::Passed(n) = before else {
-        return before;
-    };
-    Read::Wrong(TOO_MUCH, skip(s, n))
+// After the last operand.
+fn end(rest: &[u8]) -> Result<Infallible, Wrong<'_>> {
+    Err(Mistake::TooMuch.at(rest.trim_ascii_start()))
 }
 
 // An immediate, from the comma before it on; `large` is the mistake if it does not fit its field.
-fn immediate(s: &[u8], text: &[u8], table: &[u64], base: u64, before: Read, large: u64) -> Read {
-    let Read::Passed(n) = before else {
-        return before;
-    };
-    let between = comma(s, n);
-    let Read::Passed(m) = between else {
-        return between;
-    };
-    let start = operand(s, m);
-    let Read::Passed(at) = start else {
-        return start;
-    };
-    let read = sum(s, text, table, base, at, DEPTH);
-    let Read::Value(v, end) = read else {
-        return read;
-    };
-    if end < s.len() {
-        return Read::Wrong(TOO_MUCH, end);
+fn immediate<'a>(
+    rest: &'a [u8],
+    labels: Labels<'_>,
+    large: Mistake,
+) -> Result<Infallible, Wrong<'a>> {
+    let start = operand(comma(rest)?)?;
+    let (value, rest) = sum(start, labels, DEPTH)?;
+    if rest.is_empty() {
+        Err(large.of(value, start))
+    } else {
+        Err(Mistake::TooMuch.at(rest))
     }
-    Read::Unfit(large, at, v)
 }
 
-// From behind the name of an instruction on, which has `own` before it.
-pub fn operands(s: &[u8], text: &[u8], table: &[u64], own: u64, form: Form, at: usize) -> Read {
+fn checked<'a>(
+    rest: &'a [u8],
+    labels: Labels<'_>,
+    before: u64,
+    form: Form,
+) -> Result<Infallible, Wrong<'a>> {
     match form {
-        Form::R => too_much(s, registers(s, at, 2)),
-        Form::I | Form::S => immediate(s, text, table, 0, registers(s, at, 1), LARGE_IMMEDIATE),
-        Form::Shift => immediate(s, text, table, 0, registers(s, at, 1), LARGE_AMOUNT),
-        Form::B => immediate(s, text, table, own, registers(s, at, 1), LARGE_IMMEDIATE),
-        Form::J => immediate(s, text, table, own, registers(s, at, 0), LARGE_OFFSET),
-        Form::Alone => too_much(s, Read::Passed(at)),
+        Form::R => end(registers(rest, 2)?),
+        Form::I | Form::S => immediate(registers(rest, 1)?, labels, Mistake::LargeImmediate),
+        Form::Shift => immediate(registers(rest, 1)?, labels, Mistake::LargeAmount),
+        Form::B => immediate(
+            registers(rest, 1)?,
+            labels.counted_from(before),
+            Mistake::LargeImmediate,
+        ),
+        Form::J => immediate(
+            registers(rest, 0)?,
+            labels.counted_from(before),
+            Mistake::LargeOffset,
+        ),
+        Form::Alone => end(rest),
+    }
+}
+
+// From behind the name of an instruction on, which has `before` before it.
+pub fn operands<'a>(rest: &'a [u8], labels: Labels<'_>, before: u64, form: Form) -> Wrong<'a> {
+    match checked(rest, labels, before, form) {
+        Ok(never) => match never {},
+        Err(wrong) => wrong,
     }
 }

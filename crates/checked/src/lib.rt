@@ -1,15 +1,15 @@
 // Step and run over a lent list of records, in both modes: the legs of `run`, and what they ask for listed here.
 #![tactic(auto)]
 
-ghost use Rattle.std.specs.Prelude.{◌≡◌};
+ghost use Rattle.std.specs.Prelude.{◌≡◌, ◌+◌, ◌<◌, ◌^◌};
 ghost use Rattle.execute.specs.World.{world_of};
 ghost use Rattle.execute.specs.Rules.{rules_of};
-ghost use Rattle.pending.specs.Pending.{checks_of};
+ghost use Rattle.pending.specs.Pending.{checks_of, listing};
 ghost use Rattle.step.specs.Step.{step};
 ghost use Rattle.run.specs.Run.{run};
+ghost use Rattle.run.specs.Legs.{comes_to};
 ghost use Rattle.checks.specs.Records.{listed};
 ghost use Rattle.checked.specs.Machine.{stepped_over, ran_over};
-ghost use Rattle.checked.specs.Inner.{NotesChecks, Steps, Begins, TurnsLeg};
 
 use checks::{Pending, note_at};
 use execute::{Choices, Went};
@@ -20,104 +20,19 @@ use run::{Ran, legs};
 use state::State;
 use step::{OneStep, leg, takes};
 
-// The count after the checks of a step, and what is to be listed, which stands beyond the list where nothing is.
-#[derive(Clone, Copy)]
-struct Noted {
-    count: usize,
-    place: usize,
-    pending: Pending,
-}
-
-#[derive(Clone, Copy)]
-struct Moved {
-    done: OneStep,
-    place: usize,
-    pending: Pending,
-}
-
-// A run on its way, and how many checks are listed.
-#[derive(Clone, Copy)]
-struct Way {
-    going: Going,
-    count: usize,
-}
-
-#[derive(Clone, Copy)]
-struct Turned {
-    next: Way,
-    place: usize,
-    pending: Pending,
-}
-
-fn nothing() -> Pending
-    ensures { result ≡ record { value = 0; bound = 0; pc = 0 } }
-{
-    Pending {
-        value: 0,
-        bound: 0,
-        pc: 0,
-    }
-}
-
-fn unnoted(room: usize, count: usize) -> Noted
-    ensures { result ≡ record { count = count; place = room; pending = record { value = 0; bound = 0; pc = 0 } } }
-{
-    let pending = nothing();
-    Noted {
-        count,
-        place: room,
-        pending,
-    }
-}
-
-fn note(checks: Option<Check>, pc: u64, room: usize, count: usize) -> Noted
-    ensures { NotesChecks (checks_of checks) pc room count result }
+// Lists the checks of a step at a pc, and answers the count then.
+fn note(list: &mut [Pending], count: usize, checks: Option<Check>, pc: u64) -> usize
+    ensures { listed result list.new ≡ listing (checks_of checks) pc (listed count list.old) }
 {
     match checks {
-        None => unnoted(room, count),
+        None => count,
         Some(Check { bound, value }) => {
-            if room <= count {
-                return unnoted(room, count);
+            if list.len() <= count {
+                return count;
             }
-            Noted {
-                count: count + 1,
-                place: count,
-                pending: Pending { value, bound, pc },
-            }
+            note_at(list, count, Pending { value, bound, pc });
+            count + 1
         }
-    }
-}
-
-fn step_at(choices: Choices, s: State, m: &mut [u8], room: usize, count: usize) -> Moved
-    ensures { Steps choices s m.old room count result m.new }
-{
-    let mode = choices.mode;
-    if !takes(mode, s, room, room, room, count) {
-        let pending = nothing();
-        return Moved {
-            done: OneStep {
-                went: Went::Refused(Refusal::Malformed),
-                count,
-                state: s,
-            },
-            place: room,
-            pending,
-        };
-    }
-    let g = leg::advance(choices, room_at(room, count), s, 1, m);
-    let checks = g.checks;
-    let n = note(checks, g.pc, room, count);
-    let went = g.went;
-    let state = g.state;
-    let pending = n.pending;
-    Moved {
-        done: OneStep {
-            went,
-            count: n.count,
-            state,
-        },
-        place: n.place,
-        pending,
     }
 }
 
@@ -125,39 +40,45 @@ fn step_at(choices: Choices, s: State, m: &mut [u8], room: usize, count: usize) 
 pub fn step(choices: Choices, s: State, m: &mut [u8], list: &mut [Pending], count: usize) -> OneStep
     ensures { stepped_over result m.new list.new ≡ step choices.mode (rules_of choices) (world_of s m.old) (listed count list.old) }
 {
-    let r = step_at(choices, s, m, list.len(), count);
-    note_at(list, r.place, r.pending);
-    r.done
-}
-
-fn begin(choices: Choices, s: State, fuel: u64, room: usize, count: usize) -> Way
-    ensures { Begins choices s fuel room count result }
-{
     let mode = choices.mode;
-    let taken = takes(mode, s, room, room, room, count);
-    let going = legs::begin(choices, s, fuel, taken);
-    Way { going, count }
+    let room = list.len();
+    if !takes(mode, s, room, room, room, count) {
+        return OneStep {
+            went: Went::Refused(Refusal::Malformed),
+            count,
+            state: s,
+        };
+    }
+    let g = leg::advance(choices, room_at(room, count), s, 1, m);
+    let checks = g.checks;
+    let count = note(list, count, checks, g.pc);
+    let went = g.went;
+    let state = g.state;
+    OneStep { went, count, state }
 }
 
-// One leg of the run.
-fn turn(r: Way, m: &mut [u8], room: usize) -> Turned
-    ensures { TurnsLeg r m.old room result m.new }
+// The legs of a run on its way, what they ask for listed.
+fn go(begun: Going, m: &mut [u8], list: &mut [Pending], count: usize) -> Ran
+    requires { begun.steps + begun.left < 2 ^ 64 }
+    ensures { ran_over result m.new list.new ≡ comes_to begun m.old (listed count list.old) }
 {
-    let before = r.going;
-    let choices = before.choices;
-    let s = before.state;
-    let g = leg::advance(choices, room_at(room, r.count), s, before.left, m);
-    let checks = g.checks;
-    let n = note(checks, g.pc, room, r.count);
-    let going = legs::next(before, g);
-    let pending = n.pending;
-    Turned {
-        next: Way {
-            going,
-            count: n.count,
-        },
-        place: n.place,
-        pending,
+    let mut r = begun;
+    let mut count = count;
+    while r.on {
+        let choices = r.choices;
+        let s = r.state;
+        let g = leg::advance(choices, room_at(list.len(), count), s, r.left, m);
+        let checks = g.checks;
+        count = note(list, count, checks, g.pc);
+        r = legs::next(r, g);
+    }
+    let stop = r.stop;
+    let state = r.state;
+    Ran {
+        stop,
+        steps: r.steps,
+        count,
+        state,
     }
 }
 
@@ -172,19 +93,8 @@ pub fn run(
 ) -> Ran
     ensures { ran_over result m.new list.new ≡ run choices.mode (rules_of choices) fuel (world_of s m.old) (listed count list.old) }
 {
-    let mut r = begin(choices, s, fuel, list.len(), count);
-    loop {
-        if r.going.on {
-            let t = turn(r, m, list.len());
-            note_at(list, t.place, t.pending);
-            r = t.next;
-        } else {
-            return Ran {
-                stop: r.going.stop,
-                steps: r.going.steps,
-                count: r.count,
-                state: r.going.state,
-            };
-        }
-    }
+    let mode = choices.mode;
+    let room = list.len();
+    let taken = takes(mode, s, room, room, room, count);
+    go(legs::begin(choices, s, fuel, taken), m, list, count)
 }

@@ -4,7 +4,6 @@
 ghost use Rattle.std.specs.Prelude.{◌≡◌, set};
 ghost use Rattle.pending.specs.Pending.{empty_answer, empty_lists, entry_at};
 ghost use Rattle.checks.specs.Records.{listed, answer_to, with_one};
-ghost use Rattle.checks.specs.Places.{Fits};
 
 use pending::Entry;
 use refusal::Refusal;
@@ -17,47 +16,12 @@ pub struct Pending {
     pub pc: u64,
 }
 
-// Where a check is to be listed, which is beyond the list where none is, and the answer.
-#[derive(Clone, Copy)]
-struct Placed {
-    answer: Result<usize, Refusal>,
-    place: usize,
-}
-
 // The record at a place is overwritten, where there is one.
 pub fn note_at(list: &mut [Pending], at: usize, p: Pending)
     ensures { list.new ≡ set list.old at p }
 {
-    if list.len() <= at {
-        return;
-    }
-    list[at] = p;
-}
-
-fn place_for(room: usize, count: usize, p: Pending) -> Placed
-    ensures { Fits room count p result }
-{
-    if room < count {
-        return Placed {
-            answer: Err(Refusal::Malformed),
-            place: room,
-        };
-    }
-    if count < room {
-        return Placed {
-            answer: Ok(count + 1),
-            place: count,
-        };
-    }
-    if room == 0 {
-        return Placed {
-            answer: Ok(count),
-            place: room,
-        };
-    }
-    Placed {
-        answer: Err(Refusal::ListFull { pc: p.pc }),
-        place: room,
+    if at < list.len() {
+        list[at] = p;
     }
 }
 
@@ -65,9 +29,18 @@ fn place_for(room: usize, count: usize, p: Pending) -> Placed
 pub fn append(list: &mut [Pending], count: usize, p: Pending) -> Result<usize, Refusal>
     ensures { (result ≡ answer_to p count list.old) × (listed (with_one p count list.old).count list.new ≡ with_one p count list.old) }
 {
-    let r = place_for(list.len(), count, p);
-    note_at(list, r.place, p);
-    r.answer
+    let room = list.len();
+    if room < count {
+        return Err(Refusal::Malformed);
+    }
+    if count < room {
+        list[count] = p;
+        return Ok(count + 1);
+    }
+    if room == 0 {
+        return Ok(count);
+    }
+    Err(Refusal::ListFull { pc: p.pc })
 }
 
 // Empties the list: the count is 0 then, and the records stay.

@@ -1,42 +1,72 @@
-// What the two programs share: memory read from standard input, and the lines that they print. No contract can say what a program
-// reads or writes, so these functions promise nothing; what they print is tested.
+// What the two programs share: memory read from standard input, a run of it, and the lines that they print. No contract can say what a
+// program reads or writes, so this promises nothing; what is printed is tested.
 #![tactic(auto)]
 
-use refusal::Stop;
+use refusal::{Refusal, Stop};
+use run::Ran;
 use state::State;
-use std::io;
-use std::io::Read;
+use std::{fmt, io};
 
 pub const FUEL: u64 = 1_000_000;
 
-// Fills memory from a reader, and says whether there was more.
-pub fn read_memory<R: Read>(reader: &mut R, m: &mut [u8]) -> io::Result<bool> {
-    input::fill(reader, m)?;
-    input::has_more(reader)
+const MEMORY: usize = 65_536;
+
+// How a run went, as the first line says it.
+#[derive(Clone, Copy)]
+struct Stopped {
+    stop: Stop,
+    steps: u64,
+    pc: u64,
 }
 
-// The first line.
-pub fn print_stop(rt: &impl Print, stop: Stop, steps: u64, pc: u64) -> io::Result<()> {
-    match stop {
-        Stop::Fuel => print!(rt; "stop fuel")?,
-        Stop::Ebreak => print!(rt; "stop ebreak")?,
-        Stop::Ecall => print!(rt; "stop ecall")?,
-        Stop::Refused(r) => print!(rt; "refused {}", refusal::number_of(r))?,
+impl fmt::Display for Stopped {
+    fn fmt<W: fmt::Write>(&self, f: &mut fmt::Formatter<W>) -> fmt::Result {
+        match self.stop {
+            Stop::Fuel => write!(f, "stop fuel")?,
+            Stop::Ebreak => write!(f, "stop ebreak")?,
+            Stop::Ecall => write!(f, "stop ecall")?,
+            Stop::Refused(r) => write!(f, "refused {}", refusal::number_of(r))?,
+        }
+        write!(f, " steps {} pc {}", self.steps, self.pc)
     }
-    println!(rt; " steps {steps} pc {pc}")
-}
-
-fn print_register(rt: &impl Print, n: u8, value: u64) -> io::Result<()> {
-    if value == 0 {
-        return Ok(());
-    }
-    println!(rt; "R{n} {value}")
 }
 
 // The registers whose value is not zero, upwards.
-pub fn print_registers(rt: &impl Print, s: State) -> io::Result<()> {
+fn print_registers(rt: &impl Print, s: State) -> io::Result<()> {
     for n in 0..16u8 {
-        print_register(rt, n, s.registers.value_at(n))?;
+        let value = s.registers.value_at(n);
+        if value != 0 {
+            println!(rt; "R{n} {value}")?;
+        }
     }
     Ok(())
+}
+
+// Runs the program on standard input from a fresh state, and prints how it stopped and the registers. More than memory holds is
+// refused.
+pub fn run_program<F: FnOnce(State, &mut [u8]) -> Ran>(
+    rt: &(impl Print + Input + AllocGlobal),
+    run: F,
+) -> io::Result<()>
+    requires { F.IsAlwaysCallable run }
+{
+    let Some(mut memory) = input::read_at_most(rt.alloc(), &mut rt.reader(), MEMORY)? else {
+        let stop = Stop::Refused(Refusal::Malformed);
+        return println!(rt;
+            "{}",
+            Stopped {
+                stop,
+                steps: 0,
+                pc: 0
+            }
+        );
+    };
+    memory.resize(MEMORY, 0)?;
+    let ran = run(state::fresh(0), &mut memory);
+    let stop = ran.stop;
+    let steps = ran.steps;
+    let after = ran.state;
+    let pc = after.pc;
+    println!(rt; "{}", Stopped { stop, steps, pc })?;
+    print_registers(rt, after)
 }

@@ -1,8 +1,5 @@
-// The call that a line's numbers describe, and where its parts stand among them. A line is an array, of which the first numbers
-// are its own; a part that ends at NUMBERS is not whole.
-
-// More than a line in good form has, whatever its call.
-pub const NUMBERS: usize = 1024;
+// The call that a line's numbers describe, and what it must leave.
+ghost use Rattle.std.specs.Prelude.{◌≤◌, ◌+◌, length, IfSome};
 
 pub const STATE_BUFFER: usize = 408;
 
@@ -12,167 +9,133 @@ pub const ANSWER_BUFFER: usize = 32;
 
 pub const LIST_BUFFER: usize = 16;
 
+// An 8-byte number in a buffer: how many stand before it, and the number.
+pub type Pair = [u64; 2];
+
+// A value, a bound and a pc.
+pub type Entry = [u64; 3];
+
+// The lists that are lent to a run: their length, how many entries are in use, and those that it must append.
 #[derive(Clone, Copy)]
-pub struct Call {
-    pub is_listed: bool,
+pub struct Lists<'a> {
+    pub room: usize,
+    pub count: usize,
+    pub appended: &'a [Entry],
+    ghost room_fits: { room ≤ 16 },
+    ghost entries_fit: { count + length appended.now ≤ 16 },
+}
+
+#[derive(Clone, Copy)]
+pub struct Call<'a> {
     pub mode: u64,
     pub fuel: u64,
     // the lengths lent
-    pub state: u64,
-    pub memory: u64,
-    pub answer: u64,
-    // of the lists: their length, and how many entries are in use
-    pub room: u64,
-    pub count: u64,
+    pub state_len: usize,
+    pub memory_len: usize,
+    pub answer_len: usize,
+    // what the buffers have before, and what must have changed in them
+    pub state: &'a [Pair],
+    pub memory: &'a [Pair],
+    pub state_after: &'a [Pair],
+    pub memory_after: &'a [Pair],
+    // the answer's code, steps and particular
+    pub answer: [u64; 3],
+    pub lists: Option<Lists<'a>>,
+    ghost state_fits: { state_len ≤ 408 },
+    ghost memory_fits: { memory_len ≤ 1024 },
+    ghost answer_fits: { answer_len ≤ 32 },
 }
 
-// Where each part begins, and the last ends.
-#[derive(Clone, Copy)]
-pub struct Places {
-    pub state: usize,
-    pub memory: usize,
-    pub answer: usize,
-    pub state_after: usize,
-    pub memory_after: usize,
-    pub lists: usize,
-    pub end: usize,
-}
-
-pub fn number_at(line: &[u64; NUMBERS], at: usize) -> u64 {
-    if at < NUMBERS { line[at] } else { 0 }
-}
-
-// The place n numbers on, at most NUMBERS.
-pub fn onward(at: usize, n: u64) -> usize {
-    if NUMBERS <= at {
-        return NUMBERS;
-    }
-    if (NUMBERS - at) as u64 <= n {
-        return NUMBERS;
-    }
-    at + n as usize
-}
-
-pub fn call_of(line: &[u64; NUMBERS]) -> Call {
-    let is_listed = line[0] == 1;
-    Call {
-        is_listed,
-        mode: line[1],
-        fuel: line[2],
-        state: line[3],
-        memory: line[4],
-        answer: line[5],
-        room: if is_listed { line[6] } else { 0 },
-        count: if is_listed { line[7] } else { 0 },
-    }
-}
-
-// The place after a count of pairs and the pairs.
-fn past_pairs(line: &[u64; NUMBERS], at: usize) -> usize {
-    let pairs = number_at(line, at);
-    if NUMBERS as u64 <= pairs {
-        return NUMBERS;
-    }
-    onward(at, 1 + 2 * pairs)
-}
-
-// The place after a count of entries and those appended. Lists never shrink: a lower count ends nowhere.
-fn past_lists(line: &[u64; NUMBERS], at: usize, count: u64) -> usize {
-    let after = number_at(line, at);
-    if after < count {
-        return NUMBERS;
-    }
-    if NUMBERS as u64 <= after {
-        return NUMBERS;
-    }
-    onward(at, 1 + 3 * (after - count))
-}
-
-pub fn places_of(line: &[u64; NUMBERS], call: Call) -> Places {
-    let state = if call.is_listed { 8 } else { 6 };
-    let memory = past_pairs(line, state);
-    let answer = past_pairs(line, memory);
-    let state_after = onward(answer, 3);
-    let memory_after = past_pairs(line, state_after);
-    let lists = past_pairs(line, memory_after);
-    let end = if call.is_listed {
-        past_lists(line, lists, call.count)
+fn at_most(n: u64, most: usize) -> Option<usize>
+    ensures { IfSome result (λ n. n ≤ most) }
+{
+    if n <= most as u64 {
+        Some(n as usize)
     } else {
-        lists
-    };
-    Places {
-        state,
-        memory,
-        answer,
-        state_after,
-        memory_after,
-        lists,
-        end,
+        None
     }
 }
 
-// How many entries the lists must have afterwards.
-pub fn count_after(line: &[u64; NUMBERS], call: Call, places: Places) -> u64 {
-    if call.is_listed {
-        number_at(line, places.lists)
+// A count of pairs and the pairs, which lie in a buffer of so many bytes, and what is behind them.
+fn pairs(line: &[u64], buffer: usize) -> Option<(&[Pair], &[u64])> {
+    let (count, rest) = line.split_first()?;
+    let numbers = at_most(*count, rest.len() / 2)? * 2;
+    let (numbers, rest) = rest.split_at(numbers);
+    let (pairs, _) = numbers.as_chunks::<2>();
+    if pairs.iter().all(|[at, _]| *at < (buffer / 8) as u64) {
+        Some((pairs, rest))
     } else {
-        0
+        None
     }
 }
 
-// Whether the pairs at a place lie in a buffer of so many bytes.
-fn pairs_fit(line: &[u64; NUMBERS], place: usize, bytes: usize) -> bool {
-    let pairs = number_at(line, place);
-    let mut at = onward(place, 1);
-    let mut i: u64 = 0;
-    while i < pairs {
-        if (bytes / 8) as u64 <= number_at(line, at) {
-            return false;
+// A count of entries afterwards and those appended, which end the line. Lists never shrink.
+fn read_lists(room: u64, count: u64, line: &[u64]) -> Option<Lists<'_>> {
+    let (after, rest) = line.split_first()?;
+    let room = at_most(room, LIST_BUFFER)?;
+    let after = at_most(*after, LIST_BUFFER)?;
+    let count = at_most(count, after)?;
+    let (appended, rest) = rest.as_chunks::<3>();
+    if rest.is_empty() && appended.len() == after - count {
+        Some(Lists {
+            room,
+            count,
+            appended,
+        })
+    } else {
+        None
+    }
+}
+
+impl<'a> Call<'a> {
+    // None where a line is no call, or has more behind one.
+    pub fn read(line: &'a [u64]) -> Option<Self> {
+        let (head, rest) = line.split_first_chunk::<6>()?;
+        let [kind, mode, fuel, state_len, memory_len, answer_len] = *head;
+        let (lent, rest) = match kind {
+            0 => (None, rest),
+            1 => {
+                let (lent, rest) = rest.split_first_chunk::<2>()?;
+                let [room, count] = *lent;
+                (Some((room, count)), rest)
+            }
+            _ => return None,
+        };
+        let (state, rest) = pairs(rest, STATE_BUFFER)?;
+        let (memory, rest) = pairs(rest, MEMORY_BUFFER)?;
+        let (answer, rest) = rest.split_first_chunk::<3>()?;
+        let (state_after, rest) = pairs(rest, STATE_BUFFER)?;
+        let (memory_after, rest) = pairs(rest, MEMORY_BUFFER)?;
+        let lists = match lent {
+            Some((room, count)) => Some(read_lists(room, count, rest)?),
+            None if rest.is_empty() => None,
+            None => return None,
+        };
+        let call = Call {
+            mode,
+            fuel,
+            state_len: at_most(state_len, STATE_BUFFER)?,
+            memory_len: at_most(memory_len, MEMORY_BUFFER)?,
+            answer_len: at_most(answer_len, ANSWER_BUFFER)?,
+            state,
+            memory,
+            state_after,
+            memory_after,
+            answer: *answer,
+            lists,
+        };
+        if call.is_consistent() {
+            Some(call)
+        } else {
+            None
         }
-        at = onward(at, 2);
-        i += 1;
     }
-    true
-}
 
-fn all_pairs_fit(line: &[u64; NUMBERS], places: Places) -> bool {
-    pairs_fit(line, places.state, STATE_BUFFER)
-        && pairs_fit(line, places.memory, MEMORY_BUFFER)
-        && pairs_fit(line, places.state_after, STATE_BUFFER)
-        && pairs_fit(line, places.memory_after, MEMORY_BUFFER)
-}
-
-fn lengths_fit(call: Call) -> bool {
-    call.state <= STATE_BUFFER as u64
-        && call.memory <= MEMORY_BUFFER as u64
-        && call.answer <= ANSWER_BUFFER as u64
-}
-
-// An answer that isn't written has neither steps nor particular.
-fn answer_fits(line: &[u64; NUMBERS], call: Call, places: Places) -> bool {
-    call.answer == 24
-        || number_at(line, onward(places.answer, 1)) == 0
-            && number_at(line, onward(places.answer, 2)) == 0
-}
-
-// A run with lists has a mode, a whole state and a whole answer, and its lists fit their buffers.
-fn lists_fit(call: Call, after: u64) -> bool {
-    !call.is_listed
-        || call.mode <= 1
-            && call.state == 400
-            && call.answer == 24
-            && call.room <= LIST_BUFFER as u64
-            && after <= LIST_BUFFER as u64
-}
-
-// Whether a line of so many numbers is a call, whole and with nothing after it.
-pub fn is_well_formed(line: &[u64; NUMBERS], numbers: usize) -> bool {
-    let call = call_of(line);
-    let places = places_of(line, call);
-    line[0] <= 1
-        && places.end == numbers
-        && lengths_fit(call)
-        && answer_fits(line, call, places)
-        && lists_fit(call, count_after(line, call, places))
-        && all_pairs_fit(line, places)
+    // An answer that isn't written has neither steps nor particular. A run with lists has a mode, a whole state and a whole answer.
+    fn is_consistent(&self) -> bool {
+        let [_, steps, particular] = self.answer;
+        let is_answered = self.answer_len == 24;
+        (is_answered || steps == 0 && particular == 0)
+            && (self.lists.is_none() || self.mode <= 1 && self.state_len == 400 && is_answered)
+    }
 }

@@ -2,112 +2,43 @@
 // that oracle/README.md describes. Prints what was met and what differs.
 #![tactic(auto)]
 
-mod call; // call.rt: the call that a line's numbers describe, and where its parts stand
-mod line; // line.rt: a line, as its bytes come
+mod call; // call.rt: the call that a line's numbers describe, and what it must leave
+mod line; // line.rt: the numbers of a line
 mod replay; // replay.rt: the call made, and all that it leaves compared
 mod tally; // tally.rt: what was met, counted and printed
 
-use call::NUMBERS;
-use line::Line;
+use call::Call;
+use line::numbers;
 use std::io;
-use std::io::Read;
+use std::io::{BufRead, BufReader};
 use tally::Tally;
 
-const CHUNK: usize = 65_536;
-
-#[derive(Clone, Copy)]
-struct Progress {
-    line: Line,
-    tally: Tally,
-    is_ended: bool,
-}
-
 fn replay_line(
-    rt: &impl Print,
-    begun: Line,
-    numbers: &mut [u64; NUMBERS],
-    t: Tally,
-) -> io::Result<Tally> {
-    if begun.is_title {
-        return Ok(t);
+    rt: &(impl Print + AllocGlobal),
+    tally: &mut Tally,
+    number: u64,
+    line: &[u8],
+) -> io::Result<()> {
+    if line.starts_with(b"#") {
+        return Ok(());
     }
-    let line = line::with_number(begun, numbers);
-    if line.is_malformed {
-        return tally::malformed(rt, t, line.number);
-    }
-    if !call::is_well_formed(numbers, line.count) {
-        return tally::malformed(rt, t, line.number);
-    }
-    tally::compared(rt, t, line.number, replay::replay(numbers))
-}
-
-fn replay_chunk(
-    rt: &impl Print,
-    chunk: &[u8],
-    r: Progress,
-    numbers: &mut [u64; NUMBERS],
-) -> io::Result<Progress> {
-    let mut line = r.line;
-    let mut t = r.tally;
-    let mut i: usize = 0;
-    while i < chunk.len() {
-        let b = chunk[i];
-        if b == b'\n' {
-            t = replay_line(rt, line, numbers, t)?;
-            line = line::empty(tally::one_more(line.number));
-        } else {
-            line = line::with_byte(line, b, numbers);
-        }
-        i += 1;
-    }
-    Ok(Progress {
-        line,
-        tally: t,
-        is_ended: chunk.len() == 0,
-    })
-}
-
-fn read_on<R: Read>(
-    rt: &impl Print,
-    reader: &mut R,
-    r: Progress,
-    numbers: &mut [u64; NUMBERS],
-) -> io::Result<Progress> {
-    let mut chunk = [0u8; CHUNK];
-    let n = input::fill(reader, &mut chunk)?;
-    replay_chunk(rt, &chunk[..n], r, numbers)
-}
-
-// Nothing says that the input ends, so the turns are counted, from a number that no run uses up.
-fn read_all<R: Read>(
-    rt: &impl Print,
-    reader: &mut R,
-    numbers: &mut [u64; NUMBERS],
-) -> io::Result<Progress> {
-    let mut r = Progress {
-        line: line::empty(1),
-        tally: tally::nothing(),
-        is_ended: false,
+    let Some(numbers) = numbers(rt.alloc(), line)? else {
+        return tally.note_malformed(rt, number);
     };
-    let mut turns = u64::MAX;
-    while 0 < turns {
-        r = read_on(rt, reader, r, numbers)?;
-        if r.is_ended {
-            return Ok(r);
+    match Call::read(&numbers) {
+        Some(call) => {
+            let differences = replay::replay(&call);
+            tally.note_compared(rt, number, call.lists.is_some(), differences)
         }
-        turns -= 1;
+        None => tally.note_malformed(rt, number),
     }
-    Ok(r)
 }
 
 fn main(rt: HostRuntime) -> io::Result<()> {
-    let mut numbers = [0u64; NUMBERS];
-    let r = read_all(&rt, &mut rt.stdin(), &mut numbers)?;
-    let last = r.line;
-    let t = r.tally;
-    if line::is_empty(last) {
-        return tally::print(&rt, t);
+    let mut tally = Tally::default();
+    let reader = BufReader::new(rt.alloc(), rt.stdin())?;
+    for (number, line) in (1..).zip(reader.split(rt.alloc(), b'\n')) {
+        replay_line(&rt, &mut tally, number, &line?)?;
     }
-    let all = replay_line(&rt, last, &mut numbers, t)?;
-    tally::print(&rt, all)
+    println!(rt; "{tally}")
 }

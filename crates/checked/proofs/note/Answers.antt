@@ -1,11 +1,15 @@
-use Rattle.checked.proofs.Turning.{note-nothing, note-full, note-room}
+use Rattle.pending.specs.Pending.{listing}
+use Rattle.checks.proofs.Listed.{listed_more, listed_same}
 use Rattle.checked.proofs.note.Goals as goal
 
-pub returns-then-room-count : goal.returns-then-room-count
-returns-then-room-count c = rw (c.unnoted-then-room-count.ensures, c.in-Some.is) (note-full _ _ _ _ _ c.if-room-count.true)
-
 pub returns-in-None : goal.returns-in-None
-returns-in-None c = rw (c.unnoted.ensures, c.in-None.is) (note-nothing _ _ _)
+unfolding listing
+returns-in-None c = rw c.in-None.is
 
-pub returns-else-room-count : goal.returns-else-room-count
-returns-else-room-count c = rw c.in-Some.is (note-room _ _ _ _ _ c.if-room-count.false)
+pub returns-then-list-count : goal.returns-then-list-count
+unfolding listing
+returns-then-list-count c = rw c.in-Some.is (listed_same _ _ _ c.if-list-count.true)
+
+pub returns-else-list-count : goal.returns-else-list-count
+unfolding listing
+returns-else-list-count c = rw (c.in-Some.is, c.note_at.ensures) (listed_more _ _ _ c.if-list-count.false)
