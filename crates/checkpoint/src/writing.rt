@@ -20,9 +20,10 @@ pub(crate) fn held(memory: &[u8]) -> usize
 {
     let mut n = 0;
     for page in memory.chunks_exact(PAGE_BYTES) {
-        if !all_zero(page) {
-            n += 1;
+        if all_zero(page) {
+            continue;
         }
+        n += 1;
     }
     n
 }

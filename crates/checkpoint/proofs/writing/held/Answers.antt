@@ -17,20 +17,20 @@ overflow_add-n c =
     let m = c.args.memory.now in
     omega (arith, c.loop-page.invariant.4, held-le (pages_of m) m, fits_few (length m) c.requires)
 
-pub loop-page-preserved-then-not-all_zero : goal.loop-page-preserved-then-not-all_zero
-loop-page-preserved-then-not-all_zero c =
-    let steps = c.in-Some.ensures.steps in
-    let inv = c.loop-page.invariant in
-    let more = held_more _ _ _ steps.1.0 (steps.1.1 ∙ inv.2) inv.3 in
-    let some = sym c.all_zero.ensures ∙ c.if-not-all_zero.true in
-    (search rules, tt, search rules, more.0, omega (arith, inv.4, rw some at more.1))
-
 pub loop-page-preserved : goal.loop-page-preserved
 loop-page-preserved c =
     let steps = c.in-Some.ensures.steps in
     let inv = c.loop-page.invariant in
     let more = held_more _ _ _ steps.1.0 (steps.1.1 ∙ inv.2) inv.3 in
-    let none = sym c.all_zero.ensures ∙ c.if-not-all_zero.false in
+    let some = sym c.all_zero.ensures ∙ c.if-all_zero.false in
+    (search rules, tt, search rules, more.0, omega (arith, inv.4, rw some at more.1))
+
+pub loop-page-preserved-then-all_zero : goal.loop-page-preserved-then-all_zero
+loop-page-preserved-then-all_zero c =
+    let steps = c.in-Some.ensures.steps in
+    let inv = c.loop-page.invariant in
+    let more = held_more _ _ _ steps.1.0 (steps.1.1 ∙ inv.2) inv.3 in
+    let none = sym c.all_zero.ensures ∙ c.if-all_zero.true in
     (search rules, tt, search rules, more.0, omega (arith, inv.4, rw none at more.1))
 
 pub returns : goal.returns
