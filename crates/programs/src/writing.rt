@@ -9,12 +9,6 @@ use crate::spans::span_at;
 use lines::{Said, line};
 use memory::bytes::put_number;
 
-fn wide(w: u32) -> u64
-    ensures { result ≡ w }
-{
-    w as u64
-}
-
 pub(crate) fn write_words(text: &[u8], table: &[u64], words: &mut [u8])
     requires { 4 * length (words_from text.now table.now (lines_of text.now) 0) ≤ length words.old }
     ensures { words.new ≡ sets words.old 0 (bytes_of_words (words_from text.now table.now (lines_of text.now) 0)) }
@@ -22,14 +16,11 @@ pub(crate) fn write_words(text: &[u8], table: &[u64], words: &mut [u8])
     let mut at: usize = 0;
     let mut own: u64 = 0;
     let mut to: usize = 0;
-    loop {
-        if text.len() <= at {
-            return;
-        }
+    while at < text.len() {
         let span = span_at(text, at);
         let stop = span.stop;
         if let Said::Word(w) = line(&text[at..stop], text, table, own) {
-            put_number(words, to, 4, wide(w));
+            put_number(words, to, 4, u64::from(w));
             to += 4;
             own += 1;
         }
@@ -40,9 +31,5 @@ pub(crate) fn write_words(text: &[u8], table: &[u64], words: &mut [u8])
 pub(crate) fn clear(table: &mut [u64])
     ensures { table.new ≡ replicate (length table.old) 0 }
 {
-    let mut i: usize = 0;
-    while i < table.len() {
-        table[i] = 0;
-        i += 1;
-    }
+    table.fill(0);
 }

@@ -4,11 +4,11 @@ use Prim.Native.Nat.{◌+◌}
 use mathlib.Core.Path.{refl, sym, ◌∙◌}
 use Rattle.programs.proofs.checking.check.Goals as goal
 
-pub returns-then-text-at : goal.returns-then-text-at
-returns-then-text-at c =
+pub returns : goal.returns
+returns c =
     let a = c.args in
     let l = c.loop-at in
-    sym (l.invariant.3 ∙ check-end a.text.now a.table.now a.second (l.before + 1) l.own a.text.now l.at c.if-text-at.true)
+    sym (l.invariant.3 ∙ check-end a.text.now a.table.now a.second (l.before + 1) l.own a.text.now l.at c.loop-at-test.false)
 
 pub returns-in_default : goal.returns-in_default
 returns-in_default c =
@@ -24,8 +24,8 @@ loop-at-preserved c =
     let a = c.args in
     let l = c.loop-at in
     let on = c.span_at-span.ensures.on in
-    let e = sym c.one_line.ensures ∙ c.in-Go.is in
-    let m = step-more a.text.now a.table.now _ _ l.own c.in-Go.o e in
+    let e = sym c.one_line.ensures ∙ c.in-Some.is in
+    let m = step-more a.text.now a.table.now _ _ l.own c.in-Some.o e in
     let i = l.invariant in (
       c.span_at-span.ensures.within,
       omega arith,

@@ -1,5 +1,5 @@
 use Rattle.programs.proofs.Checks.{step_is}
-use Rattle.programs.specs.declared.checking.Step.TheVariants as Step
+use Rattle.std.specs.Prelude.{Some, None}
 use Rattle.lines.specs.Code.{said_of}
 use mathlib.Core.Bool.{Bool, cond}
 use mathlib.Core.Path.{sym, ap, ◌∙◌}
@@ -8,7 +8,7 @@ use Rattle.programs.proofs.checking.one_line.Goals as goal
 pub returns-then-again : goal.returns-then-again
 returns-then-again c =
     let a = c.args in
-    sym (ap (λ (t : Bool). cond t Step.Bad (Step.Go a.own)) c.if-again.true)
+    sym (ap (λ (t : Bool). cond t None (Some a.own)) c.if-again.true)
     ∙ step_is a.text.now a.table.now a.again a.s.now a.own _
     (c.line.ensures ∙ ap (said_of a.s.now) c.in-Name.is)
 
@@ -21,7 +21,7 @@ returns-in-Blank c =
 pub returns-else-again : goal.returns-else-again
 returns-else-again c =
     let a = c.args in
-    sym (ap (λ (t : Bool). cond t Step.Bad (Step.Go a.own)) c.if-again.false)
+    sym (ap (λ (t : Bool). cond t None (Some a.own)) c.if-again.false)
     ∙ step_is a.text.now a.table.now a.again a.s.now a.own _
     (c.line.ensures ∙ ap (said_of a.s.now) c.in-Name.is)
 

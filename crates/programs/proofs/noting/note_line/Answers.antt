@@ -1,7 +1,7 @@
 use Rattle.programs.proofs.Meets.{plain-after}
 use Rattle.programs.specs.Code.{after, start_after, line_after}
 use Rattle.programs.specs.declared.noting.Tally.{Tally}
-use Rattle.programs.specs.declared.noting.Met.TheVariants as Met
+use Rattle.std.specs.Prelude.{Ok}
 use Rattle.lines.specs.declared.Start.{Start}
 use Rattle.lines.proofs.Starts.{began}
 use Rattle.labels.proofs.Steps.{class-inside}
@@ -15,7 +15,7 @@ use Rattle.programs.proofs.noting.note_line.Goals as goal
 pub returns-then-is_plain : goal.returns-then-is_plain
 returns-then-is_plain c =
     let a = c.args in
-    ap (λ (u : Tally). after (Met.Go u) a.table.now) c.one_more.ensures
+    ap (λ (u : Tally). after (Ok u) a.table.now) c.one_more.ensures
     ∙ plain-after a.text.now a.table.now a.s.now a.at a.line a.t
     (sym c.is_plain.ensures ∙ c.if-is_plain.true)
 
@@ -47,7 +47,7 @@ pub returns-in-Word : goal.returns-in-Word
 unfolding line_after
 returns-in-Word c =
     let a = c.args in
-    ap (λ (u : Tally). after (Met.Go u) a.table.now) c.one_more-in-Word.ensures
+    ap (λ (u : Tally). after (Ok u) a.table.now) c.one_more-in-Word.ensures
     ∙ ap (λ (x : Start). start_after a.text.now a.table.now x a.at a.line a.t)
     (sym (sym c.start_of.ensures ∙ c.in-Word.is))
 
@@ -55,6 +55,6 @@ pub returns-in-Other : goal.returns-in-Other
 unfolding line_after
 returns-in-Other c =
     let a = c.args in
-    ap (λ (u : Tally). after (Met.Go u) a.table.now) c.one_more-in-Other.ensures
+    ap (λ (u : Tally). after (Ok u) a.table.now) c.one_more-in-Other.ensures
     ∙ ap (λ (x : Start). start_after a.text.now a.table.now x a.at a.line a.t)
     (sym (sym c.start_of.ensures ∙ c.in-Other.is))

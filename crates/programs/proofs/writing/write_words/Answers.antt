@@ -12,13 +12,13 @@ use mathlib.Core.List.{List}
 use mathlib.Core.Path.{◌≡◌, sym, ap, ◌∙◌}
 use Rattle.programs.proofs.writing.write_words.Goals as goal
 
-pub returns-then-text-at : goal.returns-then-text-at
+pub returns : goal.returns
 unfolding bytes_of_words
-returns-then-text-at c =
+returns c =
     let a = c.args in
     let l = c.loop-at in
     ap (λ (ws : List ℕ). sets l.words l.to (bytes_of_words ws))
-    (sym (words-end a.text.now a.table.now l.own a.text.now l.at c.if-text-at.true))
+    (sym (words-end a.text.now a.table.now l.own a.text.now l.at c.loop-at-test.false))
     ∙ l.invariant.4
 
 pub loop-at-preserved-in-Word : goal.loop-at-preserved-in-Word
@@ -38,7 +38,7 @@ loop-at-preserved-in-Word c =
     let n : length (words_from a.text.now a.table.now (lines_of (drop l.at a.text.now)) l.own) ≡ suc (length rest) = ap length e in
     let on = c.span_at-span.ensures.on in
     let put =
-    c.put_number.ensures ∙ ap (λ (v : ℕ). sets l.words l.to (bytes 4 v)) c.wide.ensures in (
+    c.put_number.ensures ∙ ap (λ (v : ℕ). sets l.words l.to (bytes 4 v)) c.from.ensures in (
       ap length put ∙ length-sets l.words l.to (bytes 4 w) ∙ l.invariant.0,
       c.span_at-span.ensures.within,
       omega (arith, l.invariant.2),
