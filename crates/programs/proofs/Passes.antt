@@ -24,7 +24,7 @@ use Rattle.lines.proofs.Starts.{began}
 use Rattle.programs.specs.Programs.{Teller, Label, label_at, on_saying, no_labels, labels_from, index_of, look_at, Assembly, refused, made, and_word, unless, assemble_from, assemble_of, lines_of}
 use Rattle.programs.specs.Code.{reader, tellers_of, unless_seen, second_from, Gives, step_by, line_step, on_step, check_from, words_from}
 use Rattle.programs.specs.declared.Failure.{Failure}
-use Rattle.std.specs.Prelude.{Some, None, Result, Ok, Err}
+use Rattle.std.specs.Prelude.{Result, Ok, Err}
 use Rattle.programs.proofs.Notes.{Counts, by-counts, second-by}
 use Rattle.programs.proofs.Meets.{instruction-counts}
 
@@ -77,7 +77,7 @@ module _ (text table : List ℕ) (labels : List Label) (looks : (own : ℕ) → 
 
   module _ (t : List ℕ) (ts : List (List ℕ)) (ih : Pass ts) (line own : ℕ) (seen : List Label) (h : 0 < line) where
     Checks : Saying → Result ℕ Failure
-    Checks x = on_step (step_by (eqb line second) own x) (λ o. check_from text table second ts (line + 1) o) (Err (Failure.BadLine line))
+    Checks x = on_step (step_by (eqb line second) line own x) (λ o. check_from text table second ts (line + 1) o)
 
     Makes : Saying → Assembly
     Makes x = on_saying x (assemble_from (map reader ts) labels (line + 1) own seen)
@@ -93,12 +93,12 @@ module _ (text table : List ℕ) (labels : List Label) (looks : (own : ℕ) → 
     label name = go (index_of seen name)
       where
         go : (o : Option ℕ) → second ≡ unless_seen o (second_from (map reader ts) (line + 1) own (seen ++ (label_at name own ∷ []))) line
-            → on_step (cond (eqb line second) None (Some own)) (λ o. check_from text table second ts (line + 1) o) (Err (Failure.BadLine line))
+            → on_step (cond (eqb line second) (Err (Failure.BadLine line)) (Ok own)) (λ o. check_from text table second ts (line + 1) o)
             ≡ count own (unless o (assemble_from (map reader ts) labels (line + 1) own (seen ++ (label_at name own ∷ []))) (refused line))
         go none e =
-            ap (λ (b : Bool). on_step (cond b None (Some own)) (λ o. check_from text table second ts (line + 1) o) (Err (Failure.BadLine line))) (not-second (map reader ts) line own second (seen ++ (label_at name own ∷ [])) h e)
+            ap (λ (b : Bool). on_step (cond b (Err (Failure.BadLine line)) (Ok own)) (λ o. check_from text table second ts (line + 1) o)) (not-second (map reader ts) line own second (seen ++ (label_at name own ∷ [])) h e)
             ∙ ih (line + 1) own (seen ++ (label_at name own ∷ [])) (omega arith) e
-        go (some i) e = ap (λ (b : Bool). on_step (cond b None (Some own)) (λ o. check_from text table second ts (line + 1) o) (Err (Failure.BadLine line))) (eq-eqb line second (sym e))
+        go (some i) e = ap (λ (b : Bool). on_step (cond b (Err (Failure.BadLine line)) (Ok own)) (λ o. check_from text table second ts (line + 1) o)) (eq-eqb line second (sym e))
 
     counts : (x : Saying) → Counts x → second ≡ second_from (map reader ts) (line + 1) (own + 1) seen → Checks x ≡ count own (Makes x)
     unfolding Pass Checks Makes count
@@ -133,7 +133,7 @@ module _ (text table : List ℕ) (labels : List Label) (looks : (own : ℕ) → 
   unfolding Pass check_from assemble_from count line_step Checks Makes
   pass [] line own seen h e = ap Ok (omega arith)
   pass (t ∷ ts) line own seen h e =
-      ap (λ (l : Form → List ℕ → Option ℤ). on_step (step_by (eqb line second) own (line_read l t)) (λ o. check_from text table second ts (line + 1) o) (Err (Failure.BadLine line))) (looks own)
+      ap (λ (l : Form → List ℕ → Option ℤ). on_step (step_by (eqb line second) line own (line_read l t)) (λ o. check_from text table second ts (line + 1) o)) (looks own)
       ∙ read t ts (pass ts) line own seen h e
 
   -- ---- the words

@@ -1,5 +1,5 @@
 -- Inner: what the passes over a text find, line by line, as the code does: it reads each line.
-use Rattle.std.specs.Prelude.{ℕ, ◌+◌, ◌-◌, ◌*◌, ◌<◌, ◌≤◌, Bool, true, false, cond, not, List, [], ◌∷◌, ◌++◌, map, ◌≡◌, eqb, leb, length, get_or, take, drop, Some, None, Result, Ok, Err}
+use Rattle.std.specs.Prelude.{ℕ, ◌+◌, ◌-◌, ◌*◌, ◌<◌, ◌≤◌, Bool, true, false, cond, not, List, [], ◌∷◌, ◌++◌, map, ◌≡◌, eqb, leb, length, get_or, take, drop, Result, Ok, Err}
 use Rattle.std.specs.Prelude as Std
 use Rattle.std.proofs.Math.Option.{Option, none, some}
 use Rattle.labels.specs.Bytes.{key_of}
@@ -15,6 +15,9 @@ use Rattle.told.specs.Told.{done_told, refused_told}
 use Rattle.told.specs.declared.Told.{Told}
 use Rattle.programs.specs.Promise.{left_cleared, left_of}
 use Rattle.programs.specs.declared.spans.Span.{Span}
+use Rattle.programs.specs.declared.spans.TextLine.{TextLine}
+use Rattle.programs.specs.declared.spans.TextLines.{TextLines}
+use Rattle.std.specs.Option.{MatchOption}
 use Rattle.programs.specs.declared.noting.Tally.{Tally}
 use Rattle.programs.specs.declared.Failure.{Failure}
 
@@ -42,6 +45,14 @@ pub record Spans (s : List ℕ) (at : ℕ) (r : Span) : Type 0 where
   pub stops : r.stop ≤ r.next
   pub on : at < r.next
   pub within : r.next ≤ length s
+
+-- what a text's lines give one after another
+abbrev pub line_steps : TextLines → Std.Option TextLine → TextLines → Type 0
+line_steps s r t =
+    (t.text ≡ s.text)
+    × MatchOption r ((length s.text.now ≤ s.at) × (t.at ≡ s.at) × (t.before ≡ s.before))
+    (λ l. (l.at ≡ s.at) × (l.number ≡ s.before + 1) × (t.before ≡ l.number)
+    × ((r : Span) × Spans s.text.now s.at r × (l.bytes.now ≡ take (r.stop - s.at) (drop s.at s.text.now)) × (t.at ≡ r.next)))
 
 -- ---- labels: the number of the first line that defines one again, or 0; `own` instructions and the labels `seen` stand before a line
 abbrev pub unless_seen : Option ℕ → ℕ → ℕ → ℕ
@@ -109,20 +120,20 @@ NotedAll text table (Err Failure.NoRoom) = length table < 3 * length (labels_fro
 NotedAll text table (Err (Failure.BadLine n)) = ⊥
 
 -- ---- the first bad line: one that is wrong, or defines a label again
-abbrev pub step_by : Bool → ℕ → Saying → Std.Option ℕ
-step_by again own x = on_saying x (Some own) (λ name. cond again None (Some own)) (λ w. Some (own + 1)) None
+abbrev pub step_by : Bool → ℕ → ℕ → Saying → Result ℕ Failure
+step_by again line own x = on_saying x (Ok own) (λ name. cond again (Err (Failure.BadLine line)) (Ok own)) (λ w. Ok (own + 1)) (Err (Failure.BadLine line))
 
-unfoldable pub line_step : List ℕ → List ℕ → Bool → List ℕ → ℕ → Std.Option ℕ
-line_step text table again t own = step_by again own (line_read (labels_in text table own) t)
+unfoldable pub line_step : List ℕ → List ℕ → Bool → ℕ → List ℕ → ℕ → Result ℕ Failure
+line_step text table again line t own = step_by again line own (line_read (labels_in text table own) t)
 
-abbrev pub on_step : Std.Option ℕ → (ℕ → Result ℕ Failure) → Result ℕ Failure → Result ℕ Failure
-on_step (Some own) go b = go own
-on_step None go b = b
+abbrev pub on_step : Result ℕ Failure → (ℕ → Result ℕ Failure) → Result ℕ Failure
+on_step (Ok own) go = go own
+on_step (Err f) go = Err f
 
 unfoldable pub check_from : List ℕ → List ℕ → ℕ → List (List ℕ) → ℕ → ℕ → Result ℕ Failure
 check_from text table second [] line own = Ok own
 check_from text table second (t ∷ ts) line own =
-    on_step (line_step text table (eqb line second) t own) (λ o. check_from text table second ts (line + 1) o) (Err (Failure.BadLine line))
+    on_step (line_step text table (eqb line second) line t own) (λ o. check_from text table second ts (line + 1) o)
 
 -- ---- the words of the lines that are instructions
 unfoldable pub words_from : List ℕ → List ℕ → List (List ℕ) → ℕ → List ℕ

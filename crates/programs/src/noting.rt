@@ -3,7 +3,7 @@ ghost use Rattle.std.specs.Prelude.{◌≡◌, ◌+◌, ◌<◌, ◌^◌, ◌-�
 ghost use Rattle.programs.specs.Code.{one_more, second_by, after, label_after, is_plain, line_after, NotedAll};
 
 use crate::Failure;
-use crate::spans::span_at;
+use crate::spans::{TextLine, text_lines};
 use labels::table::{Noted, note};
 use lines::{Start, start_of};
 
@@ -71,24 +71,16 @@ fn is_plain(s: &[u8]) -> bool
     !((c == b' ') | (c == b':'))
 }
 
-// A line of the text, from a place on.
-fn note_line(
-    text: &[u8],
-    table: &mut [u64],
-    s: &[u8],
-    at: usize,
-    line: u64,
-    t: Tally,
-) -> Result<Tally, Failure>
-    requires { (t.own < 2 ^ 64 - 1) × (at + length s.now < 2 ^ 64) }
-    ensures { after result table.new ≡ line_after text.now table.old s.now at line t }
+fn note_line(text: &[u8], table: &mut [u64], line: TextLine<'_>, t: Tally) -> Result<Tally, Failure>
+    requires { (t.own < 2 ^ 64 - 1) × (line.at + length line.bytes.now < 2 ^ 64) }
+    ensures { after result table.new ≡ line_after text.now table.old line.entry.bytes.now line.entry.at line.entry.number t }
 {
-    if is_plain(s) {
+    if is_plain(line.bytes) {
         return Ok(one_more(t));
     }
-    match start_of(s) {
+    match start_of(line.bytes) {
         Start::Blank => Ok(t),
-        Start::Label(p) => note_label(text, table, at + p, line, t),
+        Start::Label(p) => note_label(text, table, line.at + p, line.number, t),
         Start::Word(_, _) => Ok(one_more(t)),
         Start::Other => Ok(one_more(t)),
     }
@@ -99,19 +91,13 @@ pub(crate) fn note_labels(text: &[u8], table: &mut [u64]) -> Result<u64, Failure
     requires { table.old ≡ replicate (length table.old) 0 }
     ensures { NotedAll text.now table.new result × (length table.new ≡ length table.old) }
 {
-    let mut at: usize = 0;
-    let mut before: u64 = 0;
     let mut t = Tally {
         own: 0,
         count: 0,
         second: 0,
     };
-    while at < text.len() {
-        let span = span_at(text, at);
-        let stop = span.stop;
-        t = note_line(text, table, &text[at..stop], at, before + 1, t)?;
-        before += 1;
-        at = span.next;
+    for line in text_lines(text) {
+        t = note_line(text, table, line, t)?;
     }
     Ok(t.second)
 }
