@@ -67,17 +67,9 @@ module _ (state memory : List ℕ) (e : writable state memory ≡ true) where
   held-few = omega (arith, held-le (pages_of memory) memory, fits_few (length memory) writable-memory)
 
 -- reading
-pub restored-state : (state image : List ℕ) → length state ≡ STATE_BYTES → LEAST ≤ length image → sets state 0 (state_at image) ≡ state_at image
-restored-state state image l h =
-    let long : length (state_at image) ≡ STATE_BYTES = simp (length-take, length-drop) (omega arith) in
-    sets-all state (state_at image) (l ∙ sym long)
-
 module _ (state memory : List ℕ) (r : readable state memory ≡ true) where
   pub readable-memory : memory_fits (length memory) ≡ true
   readable-memory = (both (memory_fits (length memory)) (eqb (length state) STATE_BYTES) r).0
-
-  pub readable-state : length state ≡ STATE_BYTES
-  readable-state = eqb-true _ _ (both (memory_fits (length memory)) (eqb (length state) STATE_BYTES) r).1
 
 module _ (image memory : List ℕ) (f : memory_fits (length memory) ≡ true) where
   pub no-image : passes (pages_of memory) image ≡ false → (b m : List ℕ) → IsImage (length memory) image b m → ⊥

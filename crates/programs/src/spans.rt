@@ -70,16 +70,12 @@ fn next_feed(s: &[u8], at: usize) -> usize
     requires { at ≤ length s.now }
     ensures { Passed is_text s.now at result }
 {
-    let mut n = at;
-    loop {
-        if s.len() <= n {
+    for n in at..s.len() {
+        if s[n] == b'\n' {
             return n;
         }
-        if s[n] == 10 {
-            return n;
-        }
-        n += 1;
     }
+    s.len()
 }
 
 // Whether none of eight bytes is an LF: `&` tests all eight, so that the machine can do so at once.
@@ -103,15 +99,10 @@ fn line_feed(s: &[u8], at: usize) -> usize
     ensures { Passed is_text s.now at result }
 {
     let mut n = at;
-    loop {
-        if s.len() - n < 8 {
-            return next_feed(s, n);
-        }
-        if !eight_are_text(s, n) {
-            return next_feed(s, n);
-        }
+    while n + 8 <= s.len() && eight_are_text(s, n) {
         n += 8;
     }
+    next_feed(s, n)
 }
 
 // Where the line stops that an LF at n ends: a CR before it belongs to the line's end.
