@@ -1,13 +1,13 @@
 -- The two calls: their tests, and what they leave.
-use Prim.Native.Nat.{ℕ, ◌+◌, ◌*◌, ◌/◌, ◌%◌, ◌<◌, ◌≤◌}
+use Prim.Native.Nat.{ℕ, ◌+◌, ◌*◌, ◌<◌, ◌≤◌}
 use mathlib.Core.Path.{◌≡◌, sym, ◌∙◌}
 use mathlib.Core.Bool.{true, false}
 use mathlib.Core.List.{List, ◌++◌}
 use native.Mathlib.Omega.{arith}
-use lib.Dec.{eqb, leb}
-use lib.ListN.{length, take, length-take, length-drop}
-use lib.Seq.{sets, sets-eq, take_all}
-use borrow.Author.Tests.{eq-eqb, ne_eqb, eqb-true, leb-true, le-leb, lt-leb}
+use lib.Dec.{eqb}
+use lib.ListN.{length, length-take, length-drop}
+use lib.Seq.{sets, sets-eq}
+use borrow.Author.Tests.{eqb-true, leb-true, le-leb, lt-leb}
 use Rattle.layout.specs.Layout.{STATE_BYTES, admissible}
 use Rattle.memory.proofs.Numbers.{Small}
 use Rattle.layout.proofs.Rows.{sets-next, sets-all}
@@ -17,36 +17,16 @@ use Rattle.checkpoint.specs.Pages.{held, bodies, table_bytes, table_of}
 use Rattle.told.specs.Told.{done_told, refused_told}
 use Rattle.checkpoint.specs.Calls.{memory_fits, wrote, wrote_front, writable, writing_of, IsImage, readable}
 use Rattle.checkpoint.specs.Tests.{memory_from, LEAST, MORE, state_at, bodies_at, passes}
+use Rattle.checkpoint.proofs.Fits.{fits_whole, fits_few}
 use Rattle.checkpoint.proofs.Pages.{held-le}
 use Rattle.checkpoint.proofs.Images.{length-table, state-long, image-is, image-long, image-passes, passing-image}
 
-module _ (len : ℕ) where
-  pub fits_not : (len % PAGE_BYTES ≡ 0 → ⊥) → false ≡ memory_fits len
-  unfolding memory_fits
-  fits_not h = rw (ne_eqb _ _ h)
-
-  pub fits-if : len % PAGE_BYTES ≡ 0 → leb len 65536 ≡ memory_fits len
-  unfolding memory_fits
-  fits-if h = rw (eq-eqb _ _ h)
-
-module _ (len : ℕ) (fits : memory_fits len ≡ true) where
-  fits_both : (len % PAGE_BYTES ≡ 0) × (len ≤ 65536)
-  unfolding memory_fits
-  fits_both = let two = both _ _ fits in (eqb-true _ _ two.0, leb-true _ _ two.1)
-
-  pub fits_whole : len ≡ PAGE_BYTES * (len / PAGE_BYTES)
-  fits_whole = let two = fits_both in omega arith
-
-  pub fits-few : len / PAGE_BYTES ≤ 16
-  fits-few = let two = fits_both in omega arith
-
 -- writing
 pub image-stored : (k : ℕ) (image b m : List ℕ) → length b ≡ STATE_BYTES → length m ≡ PAGE_BYTES * k
-    → sets (sets (sets image 0 (table_of (held k m))) (table_bytes (held k m)) (take STATE_BYTES b)) (table_bytes (held k m) + STATE_BYTES) (bodies k 0 m) ≡ sets image 0 (image_of b m)
+    → sets (sets (sets image 0 (table_of (held k m))) (table_bytes (held k m)) b) (table_bytes (held k m) + STATE_BYTES) (bodies k 0 m) ≡ sets image 0 (image_of b m)
 image-stored k image b m size long =
     let n = held k m in
-    let all : take STATE_BYTES b ≡ b = take_all STATE_BYTES b (omega arith) in
-    rw (all, image-is k b m size long)
+    rw (image-is k b m size long)
     (sets-next (sets image 0 (table_of n)) (table_bytes n) (table_bytes n + STATE_BYTES) b (bodies k 0 m) (omega arith)
     ∙ sets-next image 0 (table_bytes n) (table_of n) (b ++ bodies k 0 m) (omega (arith, length-table n)))
 
@@ -84,26 +64,18 @@ module _ (state memory : List ℕ) (e : writable state memory ≡ true) where
   size_is = image-long (pages_of memory) state memory writable-state (fits_whole (length memory) writable-memory)
 
   pub held-few : held (pages_of memory) memory ≤ 16
-  held-few = omega (arith, held-le (pages_of memory) memory, fits-few (length memory) writable-memory)
+  held-few = omega (arith, held-le (pages_of memory) memory, fits_few (length memory) writable-memory)
 
 -- reading
-pub restored-state : (state image : List ℕ) → length state ≡ STATE_BYTES → LEAST ≤ length image → sets state 0 (state_at image) ≡ state_at image
-restored-state state image l h =
-    let long : length (state_at image) ≡ STATE_BYTES = simp (length-take, length-drop) (omega arith) in
-    sets-all state (state_at image) (l ∙ sym long)
-
 module _ (state memory : List ℕ) (r : readable state memory ≡ true) where
   pub readable-memory : memory_fits (length memory) ≡ true
   readable-memory = (both (memory_fits (length memory)) (eqb (length state) STATE_BYTES) r).0
-
-  pub readable-state : length state ≡ STATE_BYTES
-  readable-state = eqb-true _ _ (both (memory_fits (length memory)) (eqb (length state) STATE_BYTES) r).1
 
 module _ (image memory : List ℕ) (f : memory_fits (length memory) ≡ true) where
   pub no-image : passes (pages_of memory) image ≡ false → (b m : List ℕ) → IsImage (length memory) image b m → ⊥
   no-image t b m i =
       let long : length m ≡ PAGE_BYTES * pages_of memory = i.long ∙ fits_whole (length memory) f in
-      let yes : passes (pages_of memory) (image_of b m) ≡ true = image-passes (pages_of memory) b m (state-long b i.formed) long (fits-few (length memory) f) i.formed in
+      let yes : passes (pages_of memory) (image_of b m) ≡ true = image-passes (pages_of memory) b m (state-long b i.formed) long (fits_few (length memory) f) i.formed in
       let no : passes (pages_of memory) (image_of b m) ≡ false = rw i.is at t in
       let q : ◌≡◌ {A = ℕ} 0 1 = cc in
       omega arith

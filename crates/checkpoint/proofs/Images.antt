@@ -4,9 +4,9 @@ use mathlib.Core.Path.{◌≡◌, refl, ap, sym, ◌∙◌}
 use mathlib.Core.Bool.{Bool, true, false, cond}
 use mathlib.Core.List.{List, [], ◌∷◌, ◌++◌, append_assoc}
 use native.Mathlib.Omega.{arith}
-use lib.Dec.{eqb}
 use lib.ListN.{length, take, drop, length-drop, length-append, take-append-drop}
 use lib.Seq.{take_at, drop_at, drop-drop, get_or-drop}
+use Rattle.std.proofs.lemmas.Slice.Eq.{bytes_eq-Decides}
 use borrow.Author.Tests.{eqb-true, eq-eqb, leb-true, le-leb}
 use Rattle.memory.specs.Bytes.{bytes}
 use Rattle.layout.specs.Layout.{STATE_BYTES, well_laid, admissible}
@@ -14,22 +14,8 @@ use Rattle.memory.proofs.Numbers.{Small}
 use Rattle.layout.proofs.Tests.{both}
 use Rattle.checkpoint.specs.Image.{Part, entries_of, bodies_of, image_of_parts, state_part, PAGE_BYTES, all_zero, page_part, page_parts, pages_of, image_of}
 use Rattle.checkpoint.specs.Pages.{BODY_BYTES, held, body, bodies, entry, entries, table_bytes, table_of}
-use Rattle.checkpoint.specs.Tests.{same, fill_pages, memory_from, LEAST, MORE, pages_in, state_at, bodies_at, passes}
+use Rattle.checkpoint.specs.Tests.{fill_pages, memory_from, LEAST, MORE, pages_in, state_at, bodies_at, passes}
 use Rattle.checkpoint.proofs.Pages.{page-long, rest-long, held-le, length-bytes-8, bodies-long, bodies-fill, memory-long, filled-bodies}
-
-same-is : (a b : List ℕ) → same a b ≡ true → a ≡ b
-unfolding same
-same-is [] [] e = refl
-same-is [] (y ∷ b) e = absurd (let q : ◌≡◌ {A = ℕ} 0 1 = cc in omega arith)
-same-is (x ∷ a) [] e = absurd (let q : ◌≡◌ {A = ℕ} 0 1 = cc in omega arith)
-same-is (x ∷ a) (y ∷ b) e =
-    let two = both (eqb x y) (same a b) e in
-    rw (eqb-true x y two.0, same-is a b two.1)
-
-same_self : (a : List ℕ) → same a a ≡ true
-unfolding same
-same_self [] = refl
-same_self (x ∷ a) = rw (eq-eqb x x refl) (same_self a)
 
 pub length-entry : (k o s : ℕ) → length (entry k o s) ≡ 12
 unfolding entry bytes
@@ -153,7 +139,7 @@ module _ (k : ℕ) (b m : List ℕ) (size : length b ≡ STATE_BYTES) (long : le
         let enough : LEAST ≤ length (image_of b m) = omega arith in
         let even : (length (image_of b m) - LEAST) % MORE ≡ 0 = omega arith in
         let most : pages_in (image_of b m) ≤ k = rw h (held-le k m) in
-        rw (le-leb _ _ enough, eq-eqb _ _ even, le-leb _ _ most, table-in, state-in, formed, bodies-in, h, same_self (table_of (held k m)))
+        rw (le-leb _ _ enough, eq-eqb _ _ even, le-leb _ _ most, table-in, state-in, formed, bodies-in, h, (bytes_eq-Decides (table_of (held k m)) _).1 refl)
         (bodies-fill k 0 m (omega arith) long).0
 
 -- two machines with one image are equal
@@ -178,7 +164,7 @@ module _ (k : ℕ) (image : List ℕ) (small : Small image) (t : passes k image 
       let three = both _ _ four.0 in
       let two = both _ _ three.0 in
       let one = both _ _ two.0 in
-      (leb-true LEAST (length image) one.0, eqb-true _ _ one.1, same-is _ _ three.1, four.1, five.1)
+      (leb-true LEAST (length image) one.0, eqb-true _ _ one.1, (bytes_eq-Decides _ _).0 three.1, four.1, five.1)
 
   pub passing-image : (admissible (state_at image) ≡ true) × (length read_memory ≡ PAGE_BYTES * k) × (image ≡ image_of (state_at image) read_memory)
   passing-image =

@@ -17,13 +17,14 @@ use Rattle.told.specs.declared.Told.{Told}
 use Rattle.checkpoint.specs.Image.{entries_of, bodies_of, image_of_parts, page_parts, pages_of, image_of}
 use Rattle.checkpoint.specs.Calls.{memory_fits, Wrote, wrote, wrote_front, writable, writing_of, IsImage, readable, ReadLeaves, misused, broken, restored}
 use Rattle.checkpoint.specs.Statements.{OneMachine, OneState, WritingRestores, ReadingRewrites, LeastImage}
+use Rattle.checkpoint.proofs.Fits.{fits_whole, fits_few}
 use Rattle.checkpoint.proofs.Images.{injective}
-use Rattle.checkpoint.proofs.Calls.{fits_whole, fits-few, readable-memory, writing-done}
+use Rattle.checkpoint.proofs.Calls.{readable-memory, writing-done}
 
 pub one-machine : OneMachine
 one-machine len image s s' m m' f i i' =
     let w = fits_whole len f in
-    injective (pages_of m) s s' m m' (rw i.long (fits-few len f)) i.formed i'.formed (rw i.long w) (i'.long ∙ rw i.long w) (sym i.is ∙ i'.is)
+    injective (pages_of m) s s' m m' (rw i.long (fits_few len f)) i.formed i'.formed (rw i.long w) (i'.long ∙ rw i.long w) (sym i.is ∙ i'.is)
 
 pub one_state : OneState
 one_state s s' m m' h h' w w' f l e =

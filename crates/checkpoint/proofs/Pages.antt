@@ -103,25 +103,25 @@ later (suc n) at next m h fits l =
 
 -- the bodies of a memory fill its pages, and give it back
 module _ (rest : List ℕ) (at : ℕ) where
-  fill-held : (n : ℕ) → stands at rest ≡ true → all_zero (take PAGE_BYTES (drop 8 rest)) ≡ false
+  pub fill-held : (n : ℕ) → stands at rest ≡ true → all_zero (take PAGE_BYTES (drop 8 rest)) ≡ false
       → fill_pages (suc n) at rest ≡ fill_pages n (at + PAGE_BYTES) (drop BODY_BYTES rest)
   unfolding fill_pages idle reach_of
   fill-held n s z = rw (s, z)
 
-  fill-zero : (n : ℕ) → stands at rest ≡ true → all_zero (take PAGE_BYTES (drop 8 rest)) ≡ true → fill_pages (suc n) at rest ≡ false
+  pub fill-zero : (n : ℕ) → stands at rest ≡ true → all_zero (take PAGE_BYTES (drop 8 rest)) ≡ true → fill_pages (suc n) at rest ≡ false
   unfolding fill_pages idle
   fill-zero n s z = rw (s, z)
 
-  fill-passed : (n : ℕ) → stands at rest ≡ false → fill_pages (suc n) at rest ≡ fill_pages n (at + PAGE_BYTES) rest
+  pub fill-passed : (n : ℕ) → stands at rest ≡ false → fill_pages (suc n) at rest ≡ fill_pages n (at + PAGE_BYTES) rest
   unfolding fill_pages idle reach_of
   fill-passed n s = rw s
 
-  memory-held : (n : ℕ) → stands at rest ≡ true
+  pub memory-held : (n : ℕ) → stands at rest ≡ true
       → memory_from (suc n) at rest ≡ take PAGE_BYTES (drop 8 rest) ++ memory_from n (at + PAGE_BYTES) (drop BODY_BYTES rest)
   unfolding memory_from page_from reach_of
   memory-held n s = rw s
 
-  memory-passed : (n : ℕ) → stands at rest ≡ false → memory_from (suc n) at rest ≡ blank PAGE_BYTES ++ memory_from n (at + PAGE_BYTES) rest
+  pub memory-passed : (n : ℕ) → stands at rest ≡ false → memory_from (suc n) at rest ≡ blank PAGE_BYTES ++ memory_from n (at + PAGE_BYTES) rest
   unfolding memory_from page_from reach_of
   memory-passed n s = rw s
 

@@ -1,5 +1,6 @@
 -- Inner: the tests of an image, as the code makes them. By its length it is known how many pages it holds.
-use Rattle.std.specs.Prelude.{ℕ, zero, suc, ◌+◌, ◌-◌, ◌/◌, ◌%◌, Bool, true, false, cond, not, ◌&&◌, List, [], ◌∷◌, ◌++◌, length, take, drop, replicate, eqb, leb}
+use Rattle.std.specs.Prelude.{ℕ, zero, suc, ◌+◌, ◌-◌, ◌/◌, ◌%◌, Bool, cond, not, ◌&&◌, List, [], ◌++◌, length, take, drop, replicate, eqb, leb}
+use Rattle.std.specs.Str.{bytes_eq}
 use Rattle.memory.specs.Bytes.{number_at}
 use Rattle.layout.specs.Layout.{STATE_BYTES, admissible}
 use Rattle.checkpoint.specs.Image.{PAGE_BYTES, all_zero}
@@ -7,12 +8,6 @@ use Rattle.checkpoint.specs.Pages.{BODY_BYTES, table_bytes, table_of}
 
 unfoldable pub blank : ℕ → List ℕ
 blank n = replicate n 0
-
-unfoldable pub same : List ℕ → List ℕ → Bool
-same [] [] = true
-same [] (y ∷ ys) = false
-same (x ∷ xs) [] = false
-same (x ∷ xs) (y ∷ ys) = eqb x y && same xs ys
 
 -- whether the body of the page at an address stands first
 unfoldable pub stands : ℕ → List ℕ → Bool
@@ -58,5 +53,5 @@ bodies_at image = drop (table_bytes (pages_in image) + STATE_BYTES) image
 unfoldable pub passes : ℕ → List ℕ → Bool
 passes n image =
     leb LEAST (length image) && eqb ((length image - LEAST) % MORE) 0 && leb (pages_in image) n
-    && same (take (table_bytes (pages_in image)) image) (table_of (pages_in image))
+    && bytes_eq (take (table_bytes (pages_in image)) image) (table_of (pages_in image))
     && admissible (state_at image) && fill_pages n 0 (bodies_at image)

@@ -12,10 +12,10 @@ use reading::{passes, restore};
 use told::{Told, done, refused};
 use writing::{held, put_image};
 
-mod parts; // parts.rt: bytes copied, cleared and compared
 mod reading; // reading.rt: the machine in an image
 mod table; // table.rt: the table of contents
 mod writing; // writing.rt: the image of a machine
+mod zeros; // zeros.rt: whether bytes are zeros
 
 pub const PAGE_BYTES: usize = 4096;
 
@@ -34,22 +34,17 @@ pub(crate) const LEAST: usize = TABLE_BYTES + STATE_BYTES;
 
 pub(crate) const MORE: usize = ENTRY_BYTES + BODY_BYTES;
 
+#[tactic(auto, unfolding(crate::specs::Calls::memory_fits))]
 fn memory_fits(len: usize) -> bool
     ensures { result ≡ memory_fits len }
 {
-    if len % PAGE_BYTES != 0 {
-        return false;
-    }
-    len <= MOST_BYTES
+    len % PAGE_BYTES == 0 && len <= MOST_BYTES
 }
 
 fn writable(state: &[u8], memory: usize) -> bool
     ensures { result ≡ (memory_fits memory && admissible state.now) }
 {
-    if !memory_fits(memory) {
-        return false;
-    }
-    is_admissible(state)
+    memory_fits(memory) && is_admissible(state)
 }
 
 // The image into the front of `image`, where it fits.
@@ -60,23 +55,19 @@ pub extern "C" fn zkir_checkpoint_write(state: &[u8], memory: &[u8], image: &mut
     if !writable(state, memory.len()) {
         return refused(9, 0);
     }
-    let pages = memory.len() / PAGE_BYTES;
-    let n = held(memory, pages);
+    let n = held(memory);
     let size = LEAST + MORE * n;
     if image.len() < size {
         return refused(11, 0);
     }
-    put_image(image, n, state, memory, pages);
+    put_image(image, n, state, memory);
     done(size as u64)
 }
 
 fn readable(state: usize, memory: usize) -> bool
     ensures { result ≡ (memory_fits memory && eqb state STATE_BYTES) }
 {
-    if !memory_fits(memory) {
-        return false;
-    }
-    state == STATE_BYTES
+    memory_fits(memory) && state == STATE_BYTES
 }
 
 // The state and the memory of an image, where it is one.
@@ -87,10 +78,9 @@ pub extern "C" fn zkir_checkpoint_read(image: &[u8], state: &mut [u8], memory: &
     if !readable(state.len(), memory.len()) {
         return refused(9, 0);
     }
-    let pages = memory.len() / PAGE_BYTES;
-    if !passes(image, pages) {
+    if !passes(image, memory.len() / PAGE_BYTES) {
         return refused(11, 0);
     }
-    restore(state, memory, pages, image);
+    restore(state, memory, image);
     done(0)
 }

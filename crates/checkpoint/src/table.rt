@@ -1,11 +1,10 @@
 // The table of contents, which the number of pages decides.
 ghost use Rattle.std.specs.Prelude.{◌≡◌, ◌+◌, ◌*◌, ◌≤◌, length, take};
+ghost use Rattle.std.specs.Str.{bytes_eq};
 ghost use Rattle.std.proofs.lemmas.List.Edits.{sets};
 ghost use Rattle.checkpoint.specs.Pages.{entry, entries, table_bytes, table_of};
-ghost use Rattle.checkpoint.specs.Tests.{same};
 ghost use Rattle.layout.specs.Layout.{STATE_BYTES};
 
-use crate::parts::same_front;
 use crate::{BODY_BYTES, ENTRY_BYTES, TABLE_BYTES};
 use layout::STATE_BYTES;
 use memory::bytes::put_number;
@@ -29,8 +28,7 @@ fn put_entries(into: &mut [u8], n: usize, offset: usize)
     requires offset_bound { offset ≤ table_bytes 16 + STATE_BYTES }
     ensures { into.new ≡ sets into.old 16 (entries n offset) }
 {
-    let mut i: usize = 0;
-    while i < n {
+    for i in 0..n {
         put_entry(
             into,
             TABLE_BYTES + ENTRY_BYTES * i,
@@ -38,7 +36,6 @@ fn put_entries(into: &mut [u8], n: usize, offset: usize)
             offset + BODY_BYTES * i,
             BODY_BYTES,
         );
-        i += 1;
     }
 }
 
@@ -57,9 +54,10 @@ pub(crate) fn put_table(into: &mut [u8], n: usize)
 pub(crate) fn table_is(image: &[u8], n: usize) -> bool
     requires n_bound { n ≤ 16 }
     requires n_in_bounds { table_bytes n ≤ length image.now }
-    ensures { result ≡ same (take (table_bytes n) image.now) (table_of n) }
+    ensures { result ≡ bytes_eq (take (table_bytes n) image.now) (table_of n) }
 {
     let mut table = [0u8; MOST_TABLE];
     put_table(&mut table, n);
-    same_front(image, &table, TABLE_BYTES + ENTRY_BYTES * n)
+    let size = TABLE_BYTES + ENTRY_BYTES * n;
+    image[..size] == table[..size]
 }

@@ -16,7 +16,7 @@ use Rattle.instruction.specs.Operands.{parts_of}
 use Rattle.words.specs.Words.{decode_in}
 use Rattle.told.specs.Told.{done_told, refused_told}
 use Rattle.told.specs.declared.Told.{Told}
-use Rattle.printing.specs.declared.measure.Room.TheVariants as Room·
+use Rattle.std.specs.Prelude.{Ok, Err}
 use Rattle.printing.specs.Print.{Printed, text, undecodable, print_line, printed_by, print_of, told_of, left_by, print_told, print_leaves}
 use Rattle.printing.specs.Passes.{all_words, taken_of, room_after, and_lines, printed_lines, Put}
 
@@ -46,18 +46,18 @@ module _ (words old : List ℕ) where
     unfolding print_told print_leaves
     answered p is = let e = eq-eqb (length words % 4) 0 whole_words in (rw (e, is), rw (e, is))
 
-    pub stopped : (room : ℕ) (r : Refusal) → room_after (print_of (all_words words)) room ≡ Room·.Refused r → Answered (refused_told (number_of r) (particular_of r)) old
+    pub stopped : (room : ℕ) (r : Refusal) → room_after (print_of (all_words words)) room ≡ Err r → Answered (refused_told (number_of r) (particular_of r)) old
     stopped room r = by (print_of (all_words words)) refl
       where
-        by : (p : Printed) → print_of (all_words words) ≡ p → room_after p room ≡ Room·.Refused r → Answered (refused_told (number_of r) (particular_of r)) old
+        by : (p : Printed) → print_of (all_words words) ≡ p → room_after p room ≡ Err r → Answered (refused_told (number_of r) (particular_of r)) old
         by (text t) is e = absurd (let z : ◌≡◌ {A = ℕ} 0 1 = cc in omega arith)
         by (undecodable s) is e = let same : s ≡ r = cc in rw (← same) (answered (undecodable s) is)
 
-    module _ (left : ℕ) (e : room_after (print_of (all_words words)) (length old + 1) ≡ Room·.Left left) where
+    module _ (left : ℕ) (e : room_after (print_of (all_words words)) (length old + 1) ≡ Ok left) where
       text-is : (t : List ℕ) × (print_of (all_words words) ≡ text t) × (length old + 1 - length t ≡ left)
       text-is = by (print_of (all_words words)) refl e
         where
-          by : (p : Printed) → print_of (all_words words) ≡ p → room_after p (length old + 1) ≡ Room·.Left left → (t : List ℕ) × (print_of (all_words words) ≡ text t) × (length old + 1 - length t ≡ left)
+          by : (p : Printed) → print_of (all_words words) ≡ p → room_after p (length old + 1) ≡ Ok left → (t : List ℕ) × (print_of (all_words words) ≡ text t) × (length old + 1 - length t ≡ left)
           by (text t) is e = (t, is, cc)
           by (undecodable r) is e = absurd (let z : ◌≡◌ {A = ℕ} 0 1 = cc in omega arith)
 

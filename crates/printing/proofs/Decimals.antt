@@ -2,12 +2,13 @@
 use Prim.Native.Nat.{ℕ, zero, suc, ◌+◌, ◌-◌, ◌*◌, ◌/◌, ◌%◌, ◌^◌, ◌≤◌, ◌<◌}
 use mathlib.Core.Bool.{Bool, true, false, cond}
 use mathlib.Core.List.{[], ◌∷◌, ◌++◌}
-use mathlib.Core.Path.{◌≡◌}
+use mathlib.Core.Path.{◌≡◌, refl}
 use native.Mathlib.Nat.{pow-suc}
 use native.Mathlib.Omega.{arith}
-use borrow.Author.Tests.{lt-ltb, le-ltb}
+use borrow.Author.Tests.{lt-ltb, le-ltb, ltb-true}
 use lib.Dec.{ltb}
 use lib.ListN.{length, length-append}
+use Rattle.printing.specs.Passes.{places}
 use Rattle.printing.specs.Print.{digits_by, number_text}
 
 -- a digit more is not used
@@ -26,7 +27,7 @@ last-digit : (f n : ℕ) → 10 ≤ n → digits_by (suc f) n ≡ digits_by f (n
 unfolding digits_by
 last-digit f n h = rw (le-ltb n 10 h)
 
-pub more-digits : (n : ℕ) → 10 ≤ n → n < 2 ^ 64 → digits_by 20 n ≡ digits_by 20 (n / 10) ++ ((48 + n % 10) ∷ [])
+more-digits : (n : ℕ) → 10 ≤ n → n < 2 ^ 64 → digits_by 20 n ≡ digits_by 20 (n / 10) ++ ((48 + n % 10) ∷ [])
 more-digits n h small = rw (unused 18 (n / 10) (omega arith)) (last-digit 19 n h)
 
 pub length_more : (n : ℕ) → 10 ≤ n → n < 2 ^ 64 → length (digits_by 20 n) ≡ length (digits_by 20 (n / 10)) + 1
@@ -41,13 +42,18 @@ length_most (suc f) n = go (ltb n 10) (length_most f (n / 10))
     go true h = omega arith
     go false h = simp length-append (omega arith)
 
-pub length-least : (f n : ℕ) → 1 ≤ length (digits_by (suc f) n)
-unfolding digits_by
-length-least f n = go (ltb n 10)
+-- the digits are the number's places
+pub digits-places : (f n : ℕ) → places 10 48 (length (digits_by f n)) n ≡ digits_by f n
+unfolding digits_by places
+digits-places zero n = refl
+digits-places (suc f) n = go (ltb n 10) refl (digits-places f (n / 10))
   where
-    go : (c : Bool) → 1 ≤ length (cond c ((48 + n) ∷ []) (digits_by f (n / 10) ++ ((48 + n % 10) ∷ [])))
-    go true = omega arith
-    go false = simp length-append (omega arith)
+    go : (c : Bool) → ltb n 10 ≡ c → places 10 48 (length (digits_by f (n / 10))) (n / 10) ≡ digits_by f (n / 10)
+        → places 10 48 (length (cond c ((48 + n) ∷ []) (digits_by f (n / 10) ++ ((48 + n % 10) ∷ [])))) n ≡ cond c ((48 + n) ∷ []) (digits_by f (n / 10) ++ ((48 + n % 10) ∷ []))
+    go true is h = let low : n % 10 ≡ n = omega (arith, ltb-true n 10 is) in rw low
+    go false is h =
+        let more : length (digits_by f (n / 10) ++ ((48 + n % 10) ∷ [])) ≡ suc (length (digits_by f (n / 10))) = simp length-append (omega arith) in
+        rw (more, h)
 
 -- with a sign
 pub not_negative : (n : ℕ) → n < 2 ^ 63 → number_text n ≡ digits_by 20 n

@@ -11,7 +11,7 @@ use Rattle.opcode.specs.Opcodes.{all}
 use Rattle.opcode.specs.declared.Opcode.{Opcode}
 use Rattle.opcode.specs.declared.Opcode.TheVariants as O
 use Rattle.names.specs.Names.{name_of, name_key}
-use Rattle.printing.specs.Passes.{letters_of}
+use Rattle.printing.specs.Passes.{places}
 
 abbrev pub size : Opcode → ℕ
 size op = length (name_of op)
@@ -20,6 +20,6 @@ size op = length (name_of op)
 abbrev pub sized : ℕ → List ℕ
 sized n = those (λ (op : Opcode). eqb (size op) n) 0 all
 
-pub name-letters : (op : Opcode) → letters_of (size op) (name_key op) ≡ name_of op
-unfolding all key_from letters_of
-name-letters = everywhere all O.Add place all-at (λ (op : Opcode). letters_of (size op) (name_key op)) name_of refl refl
+pub name-letters : (op : Opcode) → places 256 0 (size op) (name_key op) ≡ name_of op
+unfolding all key_from places
+name-letters = everywhere all O.Add place all-at (λ (op : Opcode). places 256 0 (size op) (name_key op)) name_of refl refl

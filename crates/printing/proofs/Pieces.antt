@@ -5,14 +5,14 @@ use mathlib.Core.Path.{◌≡◌, refl, ap, ◌∙◌, sym}
 use native.Mathlib.Omega.{arith}
 use lib.ListN.{length, set, length-append}
 use lib.Seq.{sets, set_comm}
-use Rattle.printing.specs.Passes.{letters_of, Put}
+use Rattle.printing.specs.Passes.{places, Put}
 
 sets-next : (l : List ℕ) (at next : ℕ) (xs ys : List ℕ) → at + length xs ≡ next → sets (sets l at xs) next ys ≡ sets l at (xs ++ ys)
 sets-next l at next [] ys e = let same : next ≡ at = omega arith in rw same
 sets-next l at next (x ∷ xs) ys e = sets-next (set l at x) (suc at) next xs ys (omega arith)
 
 -- the last byte of a piece, put first
-pub sets_last : (l : List ℕ) (at : ℕ) (xs : List ℕ) (y : ℕ) → sets (set l (at + length xs) y) at xs ≡ sets l at (xs ++ (y ∷ []))
+sets_last : (l : List ℕ) (at : ℕ) (xs : List ℕ) (y : ℕ) → sets (set l (at + length xs) y) at xs ≡ sets l at (xs ++ (y ∷ []))
 sets_last l at [] y = let here : at + 0 ≡ at = omega arith in rw here
 sets_last l at (x ∷ xs) y =
     let there : at + suc (length xs) ≡ suc at + length xs = omega arith in
@@ -28,15 +28,22 @@ both {old} {mid} {new} {at} {place} {end} {xs} {ys} p q =
 pub no_byte : (l : List ℕ) (at : ℕ) → Put l l at at []
 no_byte l at = record { stop = omega arith; left = refl }
 
--- a piece that is the letters of a key
-pub length-letters : (n key : ℕ) → length (letters_of n key) ≡ n
-unfolding letters_of
-length-letters zero key = refl
-length-letters (suc n) key = length-append (letters_of n (key / 256)) _ ∙ ap (◌+ 1) (length-letters n (key / 256)) ∙ omega arith
+-- a piece that is a number's places
+module _ (base first : ℕ) where
+  pub length-places : (n number : ℕ) → length (places base first n number) ≡ n
+  unfolding places
+  length-places zero number = refl
+  length-places (suc n) number = length-append (places base first n (number / base)) _ ∙ ap (◌+ 1) (length-places n (number / base)) ∙ omega arith
 
--- one letter more, put before the rest: the last
-pub letter-more : (l : List ℕ) (at n key : ℕ) → sets (set l (at + n) (key % 256)) at (letters_of n (key / 256)) ≡ sets l at (letters_of (suc n) key)
-unfolding letters_of
-letter-more l at n key =
-    ap (λ (k : ℕ). sets (set l (at + k) (key % 256)) at (letters_of n (key / 256))) (sym (length-letters n (key / 256)))
-    ∙ sets_last l at (letters_of n (key / 256)) (key % 256)
+  -- one place more, put before the rest: the last
+  pub place-more : (l : List ℕ) (at n number : ℕ)
+      → sets (set l (at + n) (first + number % base)) at (places base first n (number / base)) ≡ sets l at (places base first (n + 1) number)
+  unfolding places
+  place-more l at n number =
+      let more : n + 1 ≡ suc n = omega arith in
+      rw more (ap (λ (k : ℕ). sets (set l (at + k) (first + number % base)) at (places base first n (number / base))) (sym (length-places n (number / base)))
+      ∙ sets_last l at (places base first n (number / base)) (first + number % base))
+
+pub places_none : (base first number : ℕ) → places base first 0 number ≡ []
+unfolding places
+places_none base first number = refl

@@ -1,15 +1,13 @@
 -- Inner: the room that `measure` leaves, the lines that `put_lines` writes, and what each writer of a piece of text promises.
 use Rattle.instruction.specs.declared.Instruction.{Instruction}
-use Rattle.refusal.specs.declared.Refusal.{Refusal}
-use Rattle.std.specs.Prelude.{Err, Ok, Result, ℕ, zero, suc, ◌+◌, ◌-◌, ◌/◌, ◌%◌, ◌<◌, ◌≡◌, List, [], ◌∷◌, ◌++◌, length}
+use Rattle.std.specs.Prelude.{ℕ, zero, suc, ◌+◌, ◌-◌, ◌/◌, ◌%◌, ◌<◌, ◌≡◌, List, [], ◌∷◌, ◌++◌, length, Result, Ok, Err}
 use Rattle.std.proofs.lemmas.List.Edits.{sets}
+use Rattle.refusal.specs.declared.Refusal.{Refusal}
 use Rattle.opcode.specs.Opcodes.{opcode_number}
 use Rattle.instruction.specs.Operands.{parts_of}
 use Rattle.instruction.specs.declared.Parts.{Parts}
 use Rattle.words.specs.Words.{decode_in}
 use Rattle.names.specs.Names.{register_text}
-use Rattle.printing.specs.declared.measure.Room.{Room}
-use Rattle.printing.specs.declared.measure.Room.TheVariants as Room·
 use Rattle.printing.specs.Print.{Printed, text, undecodable, print_line, words_in}
 
 abbrev pub all_words : List ℕ → List ℕ
@@ -20,14 +18,14 @@ taken_of (Ok i) = Ok (parts_of i)
 taken_of (Err r) = Err r
 
 -- what is left of a room, 0 if the text is longer
-abbrev pub room_after : Printed → ℕ → Room
-room_after (text t) room = Room·.Left (room - length t)
-room_after (undecodable r) room = Room·.Refused r
+abbrev pub room_after : Printed → ℕ → Result ℕ Refusal
+room_after (text t) room = Ok (room - length t)
+room_after (undecodable r) room = Err r
 
--- the low n bytes of a key, the lowest last
-unfoldable pub letters_of : ℕ → ℕ → List ℕ
-letters_of zero key = []
-letters_of (suc n) key = letters_of n (key / 256) ++ ((key % 256) ∷ [])
+-- the lowest n places of a number in a base, the lowest last, where 0 is written as the byte `first`
+unfoldable pub places : ℕ → ℕ → ℕ → ℕ → List ℕ
+places base first zero number = []
+places base first (suc n) number = places base first n (number / base) ++ ((first + number % base) ∷ [])
 
 -- the operands that most lines begin with
 abbrev pub two_registers : ℕ → ℕ → List ℕ

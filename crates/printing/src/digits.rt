@@ -3,7 +3,7 @@ ghost use Rattle.std.specs.Prelude.{◌≡◌, ◌+◌, ◌-◌, ◌≤◌, ◌^
 ghost use Rattle.printing.specs.Print.{digits_by, number_text};
 ghost use Rattle.printing.specs.Passes.{Put};
 
-use crate::put::put_byte;
+use crate::put::{put_byte, put_places};
 
 // From here on a number stands for a negative one.
 const HALF: u64 = 0x8000_0000_0000_0000;
@@ -20,21 +20,11 @@ fn count_digits(n: u64) -> usize
     count
 }
 
-// From the last digit to the first.
 fn put_digits(text: &mut [u8], at: usize, n: u64) -> usize
     requires { at + length (digits_by 20 n) ≤ length text.old }
     ensures { Put text.old text.new at result (digits_by 20 n) }
 {
-    let end = at + count_digits(n);
-    let mut rest = n;
-    let mut i = end - 1;
-    while 10 <= rest {
-        text[i] = b'0' + (rest % 10) as u8;
-        rest = rest / 10;
-        i -= 1;
-    }
-    text[i] = b'0' + rest as u8;
-    end
+    put_places::<10, b'0'>(text, at, count_digits(n), n)
 }
 
 // What a number from `HALF` on is short of 2^64.
@@ -42,7 +32,7 @@ fn negated(n: u64) -> u64
     requires { 2 ^ 63 ≤ n }
     ensures { result ≡ 2 ^ 64 - n }
 {
-    0xFFFF_FFFF_FFFF_FFFF - n + 1
+    n.wrapping_neg()
 }
 
 pub(crate) fn number_length(n: u64) -> usize

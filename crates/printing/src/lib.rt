@@ -12,7 +12,7 @@ mod writing; // writing.rt: the second pass
 ghost use Rattle.std.specs.Prelude.{◌≡◌};
 ghost use Rattle.printing.specs.Print.{print_told, print_leaves};
 
-use measure::{Room, measure};
+use measure::measure;
 use refusal::{number_of, particular_of};
 use told::{Told, done, refused};
 use writing::put_lines;
@@ -25,13 +25,13 @@ pub fn print(words: &[u8], text: &mut [u8]) -> Told
         return refused(9, 0);
     }
     match measure(words, text.len() + 1) {
-        Room::Left(left) => {
+        Ok(left) => {
             if left == 0 {
                 return refused(9, 0);
             }
             let end = put_lines(words, text);
             done(end as u64)
         }
-        Room::Refused(r) => refused(number_of(r), particular_of(r)),
+        Err(r) => refused(number_of(r), particular_of(r)),
     }
 }

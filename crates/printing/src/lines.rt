@@ -4,7 +4,7 @@ ghost use Rattle.names.specs.Names.{name_of};
 ghost use Rattle.printing.specs.Passes.{fed, Put, ShortRegisters};
 
 use crate::operands::{operands_length, put_operands};
-use crate::put::{put_byte, put_key};
+use crate::put::{put_byte, put_places};
 use forms::form_of;
 use instruction::Parts;
 use names::name_of;
@@ -56,8 +56,7 @@ fn put_name(text: &mut [u8], at: usize, op: Opcode) -> usize
     requires { at + length (name_of op) ≤ length text.old }
     ensures { Put text.old text.new at result (name_of op) }
 {
-    let size = letters(op);
-    put_key(text, at, size, name_of(op))
+    put_places::<256, 0>(text, at, letters(op), name_of(op))
 }
 
 pub(crate) fn put_line(text: &mut [u8], at: usize, p: Parts) -> usize

@@ -1,5 +1,5 @@
 -- What the passes lead to is what is promised. Assumes nothing.
-use mathlib.Core.Path.{◌≡◌, refl, sym, ap, ◌∙◌, subst}
+use mathlib.Core.Path.{◌≡◌, refl, sym, ap, ◌∙◌}
 use mathlib.Core.Bool.{Bool, cond}
 use mathlib.Core.List.{List, [], ◌∷◌, ◌++◌}
 use Prim.Native.Nat.{ℕ, ◌+◌, ◌*◌, ◌/◌, ◌≤◌, ◌<◌}
@@ -14,9 +14,9 @@ use Rattle.told.specs.Told.{done_told, refused_told}
 use Rattle.told.specs.declared.Told.{Told}
 use Rattle.programs.specs.Programs.{Teller, Assembly, refused, made, assemble_of, labels_from, lines_of}
 use Rattle.programs.specs.Promise.{leaves, left_cleared, bytes_of_words, outcome, left_of, Assembled}
-use Rattle.programs.specs.Code.{tellers_of, Gives, NotedAll, check_from, words_from}
-use Rattle.programs.specs.declared.noting.Labels.{Labels}
-use Rattle.programs.specs.declared.checking.Checked.{Checked}
+use Rattle.programs.specs.Code.{tellers_of, Gives, NotedAll, answer_of, check_from, words_from}
+use Rattle.programs.specs.declared.Failure.{Failure}
+use Rattle.std.specs.Prelude.{Ok, Err}
 use Rattle.programs.proofs.Top.{met}
 use Rattle.programs.proofs.Passes.{count, check-right, words_right}
 
@@ -30,38 +30,37 @@ front words ws h =
     let e = bytes-length ws in
     sets-eq (bytes_of_words ws) words 0 (omega arith) ∙ ap (λ (n : ℕ). bytes_of_words ws ++ drop n words) (zero-add (length (bytes_of_words ws)) ∙ e)
 
-count-bad : (o : Assembly) (n : ℕ) → count 0 o ≡ Checked.Bad n → o ≡ refused n
+count-bad : (o : Assembly) (f : Failure) → count 0 o ≡ Err f → (n : ℕ) × ((o ≡ refused n) × (f ≡ Failure.BadLine n))
 unfolding count
-count-bad (refused m) n e = let q : m ≡ n = cc in ap refused q
-count-bad (made ws) n e = absurd (let z : ◌≡◌ {A = ℕ} 0 1 = cc in omega arith)
+count-bad (refused m) f e = (m, (refl, cc))
+count-bad (made ws) f e = absurd (let z : ◌≡◌ {A = ℕ} 0 1 = cc in omega arith)
 
-count-made : (o : Assembly) (n : ℕ) → count 0 o ≡ Checked.Words n → (ws : List ℕ) × ((o ≡ made ws) × (length ws ≡ n))
+count-made : (o : Assembly) (n : ℕ) → count 0 o ≡ Ok n → (ws : List ℕ) × ((o ≡ made ws) × (length ws ≡ n))
 unfolding count
 count-made (refused m) n e = absurd (let z : ◌≡◌ {A = ℕ} 0 1 = cc in omega arith)
 count-made (made ws) n e = let q : 0 + length ws ≡ n = cc in (ws, (refl, sym (zero-add (length ws)) ∙ q))
 
 module _ (text words labels : List ℕ) where
-  pub left-short : (table : List ℕ) (r : Labels) → NotedAll text table r → r ≡ Labels.Short → length table ≡ length labels → left_cleared (refused_told 9 0) words labels ≡ left_of (tellers_of text) words labels
+  pub left-short : (table : List ℕ) (f : Failure) → NotedAll text table (Err f) → length table ≡ length labels → left_cleared (answer_of (Err f)) words labels ≡ left_of (tellers_of text) words labels
   unfolding left_of
-  left-short table r n e l =
-      let h : length table < 3 * length (labels_from (tellers_of text) 0) = subst (NotedAll text table) e n in
+  left-short table Failure.NoRoom h l =
       sym (ap (λ (b : Bool). cond b (left_cleared (refused_told 9 0) words labels) (outcome (assemble_of (tellers_of text)) words labels)) (lt-ltb (length labels) (3 * length (labels_from (tellers_of text) 0)) (omega arith)))
+  left-short table (Failure.BadLine n) h l = absurd h
 
-  module _ (table : List ℕ) (second : ℕ) (r : Labels) (noted : NotedAll text table r) (all : r ≡ Labels.All second) (l : length table ≡ length labels) where
-    g : Gives text table second
-    g = subst (NotedAll text table) all noted
-
+  module _ (table : List ℕ) (second : ℕ) (g : Gives text table second) (l : length table ≡ length labels) where
     left_by : (o : Assembly) → assemble_of (tellers_of text) ≡ o → outcome o words labels ≡ left_of (tellers_of text) words labels
     unfolding left_of
     left_by o e =
         ap (λ (o : Assembly). outcome o words labels) (sym e)
         ∙ sym (ap (λ (b : Bool). cond b (left_cleared (refused_told 9 0) words labels) (outcome (assemble_of (tellers_of text)) words labels)) (le-ltb (length labels) (3 * length (labels_from (tellers_of text) 0)) (let r = g.room in omega arith)))
 
-    pub left-bad : (n : ℕ) → check_from text table second (lines_of text) 1 0 ≡ Checked.Bad n → left_cleared (refused_told 10 n) words labels ≡ left_of (tellers_of text) words labels
+    pub left-bad : (f : Failure) → check_from text table second (lines_of text) 1 0 ≡ Err f → left_cleared (answer_of (Err f)) words labels ≡ left_of (tellers_of text) words labels
     unfolding outcome
-    left-bad n e = left_by (refused n) (count-bad (assemble_of (tellers_of text)) n (sym (check-right text table second g) ∙ e))
+    left-bad f e =
+        let bad = count-bad (assemble_of (tellers_of text)) f (sym (check-right text table second g) ∙ e) in
+        rw bad.1.1 (left_by (refused bad.0) bad.1.0)
 
-    module _ (n : ℕ) (e : check_from text table second (lines_of text) 1 0 ≡ Checked.Words n) where
+    module _ (n : ℕ) (e : check_from text table second (lines_of text) 1 0 ≡ Ok n) where
       found : (ws : List ℕ) × ((assemble_of (tellers_of text) ≡ made ws) × (length ws ≡ n))
       found = count-made (assemble_of (tellers_of text)) n (sym (check-right text table second g) ∙ e)
 

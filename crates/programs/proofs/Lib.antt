@@ -1,6 +1,7 @@
 pub mod Readings
 pub mod Lines
 pub mod Top
+pub mod Turns
 pub mod Checks
 pub mod Writes
 pub mod Notes

@@ -25,11 +25,12 @@ use Rattle.lines.specs.Code.{is_end, start_of}
 use Rattle.lines.specs.declared.Start.{Start}
 use Rattle.lines.proofs.Starts.{Started, began}
 use Rattle.lines.proofs.Ends.{plain-start}
-use Rattle.programs.specs.Programs.{no_labels, labels_from}
-use Rattle.programs.specs.Code.{tellers_of, Spans, one_more, After, after, slot_after, label_after, start_after, is_plain, line_after}
+use Rattle.programs.specs.Programs.{no_labels}
+use Rattle.programs.specs.Code.{Spans, NotedAll, one_more, After, after, slot_after, label_after, start_after, is_plain, line_after}
 use Rattle.programs.specs.declared.spans.Span.{Span}
 use Rattle.programs.specs.declared.noting.Tally.{Tally}
-use Rattle.programs.specs.declared.noting.Met.{Met}
+use Rattle.programs.specs.declared.Failure.{Failure}
+use Rattle.std.specs.Prelude.{Result, Ok, Err}
 use Rattle.programs.proofs.Notes.{text-letter, text-name, Counts, Noting, noting-blank, noting-other, noting-short, noting-full, noting-again, noting-new}
 
 -- ---- an instruction counts, right or wrong
@@ -44,9 +45,9 @@ instruction-counts None look u = tt
 -- ---- what the labels are then
 module _ (text table : List ℕ) (at before : ℕ) (t : Tally) (g : Noting text table at before t.own t.count t.second) (r : Span) (spans : Spans text at r) where
   -- what is kept of the labels after the line, and the table's length
-  abbrev pub KeptBy : Met → List ℕ → Type 0
-  KeptBy (Met.Go u) new = Noting text new r.next (before + 1) u.own u.count u.second × (u.own ≤ t.own + 1)
-  KeptBy Met.Short new = length new < 3 * length (labels_from (tellers_of text) 0)
+  abbrev pub KeptBy : Result Tally Failure → List ℕ → Type 0
+  KeptBy (Ok u) new = Noting text new r.next (before + 1) u.own u.count u.second × (u.own ≤ t.own + 1)
+  KeptBy (Err f) new = NotedAll text new (Err f)
 
   abbrev pub Kept : After → Type 0
   Kept a = KeptBy a.met a.table × (length a.table ≡ length table)
@@ -72,7 +73,7 @@ module _ (text table : List ℕ) (at before : ℕ) (t : Tally) (g : Noting text 
       slot Slot.Full q b = (noting-full text table at before t.own t.count t.second g r spans (name_at text (at + p)) reads q, refl)
 
       go : (c : Bool) (x : Slot) → leb (slots_of table) t.count ≡ c → search_in text table (name_at text (at + p)) ≡ x
-          → Kept (cond c (after Met.Short table) (slot_after (search_in text table (name_at text (at + p))) table (at + p) (key_of (name_at text (at + p))) (before + 1) t))
+          → Kept (cond c (after (Err Failure.NoRoom) table) (slot_after (search_in text table (name_at text (at + p))) table (at + p) (key_of (name_at text (at + p))) (before + 1) t))
       go true x c q = (noting-short text table at before t.own t.count t.second g r spans (name_at text (at + p)) reads (leb-true _ _ c), refl)
       go false x c q = slot (search_in text table (name_at text (at + p))) refl (leb-false _ _ c)
 
@@ -96,21 +97,21 @@ module _ (text table : List ℕ) (at before : ℕ) (t : Tally) (g : Noting text 
       )
       go Start.Other e = ((noting-other text table at before t.own t.count t.second g r spans wrong (began s (start_of s) Start.Other refl e no_labels) tt, omega arith), refl)
 
-  pub kept-go : (u : Tally) (new : List ℕ) → after (Met.Go u) new ≡ line_after text table (take (r.stop - at) (drop at text)) at (before + 1) t
+  pub kept-go : (u : Tally) (new : List ℕ) → after (Ok u) new ≡ line_after text table (take (r.stop - at) (drop at text)) at (before + 1) t
       → (Noting text new r.next (before + 1) u.own u.count u.second × (u.own ≤ t.own + 1)) × (length new ≡ length table)
   kept-go u new e = subst Kept (sym e) kept
 
-  pub kept-short : (new : List ℕ) → after Met.Short new ≡ line_after text table (take (r.stop - at) (drop at text)) at (before + 1) t
-      → (length new < 3 * length (labels_from (tellers_of text) 0)) × (length new ≡ length table)
-  kept-short new e = subst Kept (sym e) kept
+  pub kept-short : (f : Failure) (new : List ℕ) → after (Err f) new ≡ line_after text table (take (r.stop - at) (drop at text)) at (before + 1) t
+      → NotedAll text new (Err f) × (length new ≡ length table)
+  kept-short f new e = subst Kept (sym e) kept
 
 -- ---- a line that is an instruction by its last byte
-pub plain-after : (text table s : List ℕ) (at line : ℕ) (t : Tally) → is_plain s ≡ true → after (Met.Go (one_more t)) table ≡ line_after text table s at line t
+pub plain-after : (text table s : List ℕ) (at line : ℕ) (t : Tally) → is_plain s ≡ true → after (Ok (one_more t)) table ≡ line_after text table s at line t
 unfolding line_after
 plain-after text table s at line t h = sym (go (length s) refl h)
   where
-    go : (n : ℕ) → length s ≡ n → cond (eqb n 0) false (not (is_end (get_or s (n - 1) 0))) ≡ true → start_after text table (start_of s) at line t ≡ after (Met.Go (one_more t)) table
+    go : (n : ℕ) → length s ≡ n → cond (eqb n 0) false (not (is_end (get_or s (n - 1) 0))) ≡ true → start_after text table (start_of s) at line t ≡ after (Ok (one_more t)) table
     go zero q h = absurd (let z : ◌≡◌ {A = ℕ} 0 1 = cc in omega arith)
     go (suc k) q h =
         let i : is_end (get_or s (suc k - 1) 0) ≡ false = not-true _ (sym (ap (λ (b : Bool). cond b false (not (is_end (get_or s (suc k - 1) 0)))) (ne_eqb (suc k) 0 (λ z. omega arith))) ∙ h) in
-        plain-start (λ x. start_after text table x at line t) (after (Met.Go (one_more t)) table) s k q (ap (λ (m : ℕ). is_end (get_or s m 0)) (sym (sub-one (suc k))) ∙ i) (λ p e. refl) refl
+        plain-start (λ x. start_after text table x at line t) (after (Ok (one_more t)) table) s k q (ap (λ (m : ℕ). is_end (get_or s m 0)) (sym (sub-one (suc k))) ∙ i) (λ p e. refl) refl

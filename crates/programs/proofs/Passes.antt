@@ -1,5 +1,4 @@
 -- What the passes find is what the definitions say, where the table gives the labels of the text. Assumes nothing.
-use Rattle.std.specs.Prelude.{None, Option, Some}
 use mathlib.Core.Path.{◌≡◌, refl, sym, ap, ◌∙◌, fun_ext}
 use mathlib.Core.Bool.{Bool, false, cond}
 use mathlib.Core.List.{List, [], ◌∷◌, ◌++◌, map}
@@ -23,19 +22,19 @@ use Rattle.lines.specs.declared.Start.{Start}
 use Rattle.lines.proofs.Starts.{began}
 use Rattle.programs.specs.Programs.{Teller, Label, label_at, on_saying, no_labels, labels_from, index_of, look_at, Assembly, refused, made, and_word, unless, assemble_from, assemble_of, lines_of}
 use Rattle.programs.specs.Code.{reader, tellers_of, unless_seen, second_from, Gives, step_by, line_step, on_step, check_from, words_from}
-use Rattle.programs.specs.declared.checking.Step.{Step}
-use Rattle.programs.specs.declared.checking.Checked.{Checked}
+use Rattle.programs.specs.declared.Failure.{Failure}
+use Rattle.std.specs.Prelude.{None, Option, Some, Result, Ok, Err}
 use Rattle.programs.proofs.Notes.{Counts, by-counts, second-by}
 use Rattle.programs.proofs.Meets.{instruction-counts}
 
-unfoldable pub count : ℕ → Assembly → Checked
-count own (refused n) = Checked.Bad n
-count own (made ws) = Checked.Words (own + length ws)
+unfoldable pub count : ℕ → Assembly → Result ℕ Failure
+count own (refused n) = Err (Failure.BadLine n)
+count own (made ws) = Ok (own + length ws)
 
 count_word : (own w : ℕ) (o : Assembly) → count (own + 1) o ≡ count own (and_word w o)
 unfolding count
 count_word own w (refused n) = refl
-count_word own w (made ws) = ap Checked.Words (omega arith)
+count_word own w (made ws) = ap Ok (omega arith)
 
 -- a second definition stands in no line before the first that is looked at
 second-later : (ts : List Teller) (line own : ℕ) (seen : List Label) → (second_from ts line own seen ≡ 0) ⊎ (line ≤ second_from ts line own seen)
@@ -76,8 +75,8 @@ module _ (text table : List ℕ) (labels : List Label) (looks : (own : ℕ) → 
       → check_from text table second ts line own ≡ count own (assemble_from (map reader ts) labels line own seen)
 
   module _ (t : List ℕ) (ts : List (List ℕ)) (ih : Pass ts) (line own : ℕ) (seen : List Label) (h : 0 < line) where
-    Checks : Saying → Checked
-    Checks x = on_step (step_by (eqb line second) own x) (λ o. check_from text table second ts (line + 1) o) (Checked.Bad line)
+    Checks : Saying → Result ℕ Failure
+    Checks x = on_step (step_by (eqb line second) line own x) (λ o. check_from text table second ts (line + 1) o)
 
     Makes : Saying → Assembly
     Makes x = on_saying x (assemble_from (map reader ts) labels (line + 1) own seen)
@@ -93,12 +92,12 @@ module _ (text table : List ℕ) (labels : List Label) (looks : (own : ℕ) → 
     label name = go (index_of seen name)
       where
         go : (o : Option ℕ) → second ≡ unless_seen o (second_from (map reader ts) (line + 1) own (seen ++ (label_at name own ∷ []))) line
-            → on_step (cond (eqb line second) Step.Bad (Step.Go own)) (λ o. check_from text table second ts (line + 1) o) (Checked.Bad line)
+            → on_step (cond (eqb line second) (Err (Failure.BadLine line)) (Ok own)) (λ o. check_from text table second ts (line + 1) o)
             ≡ count own (unless o (assemble_from (map reader ts) labels (line + 1) own (seen ++ (label_at name own ∷ []))) (refused line))
         go None e =
-            ap (λ (b : Bool). on_step (cond b Step.Bad (Step.Go own)) (λ o. check_from text table second ts (line + 1) o) (Checked.Bad line)) (not-second (map reader ts) line own second (seen ++ (label_at name own ∷ [])) h e)
+            ap (λ (b : Bool). on_step (cond b (Err (Failure.BadLine line)) (Ok own)) (λ o. check_from text table second ts (line + 1) o)) (not-second (map reader ts) line own second (seen ++ (label_at name own ∷ [])) h e)
             ∙ ih (line + 1) own (seen ++ (label_at name own ∷ [])) (omega arith) e
-        go (Some i) e = ap (λ (b : Bool). on_step (cond b Step.Bad (Step.Go own)) (λ o. check_from text table second ts (line + 1) o) (Checked.Bad line)) (eq-eqb line second (sym e))
+        go (Some i) e = ap (λ (b : Bool). on_step (cond b (Err (Failure.BadLine line)) (Ok own)) (λ o. check_from text table second ts (line + 1) o)) (eq-eqb line second (sym e))
 
     counts : (x : Saying) → Counts x → second ≡ second_from (map reader ts) (line + 1) (own + 1) seen → Checks x ≡ count own (Makes x)
     unfolding Pass Checks Makes count
@@ -131,9 +130,9 @@ module _ (text table : List ℕ) (labels : List Label) (looks : (own : ℕ) → 
 
   pass : (ts : List (List ℕ)) → Pass ts
   unfolding Pass check_from assemble_from count line_step Checks Makes
-  pass [] line own seen h e = ap Checked.Words (omega arith)
+  pass [] line own seen h e = ap Ok (omega arith)
   pass (t ∷ ts) line own seen h e =
-      ap (λ (l : Form → List ℕ → Option ℤ). on_step (step_by (eqb line second) own (line_read l t)) (λ o. check_from text table second ts (line + 1) o) (Checked.Bad line)) (looks own)
+      ap (λ (l : Form → List ℕ → Option ℤ). on_step (step_by (eqb line second) line own (line_read l t)) (λ o. check_from text table second ts (line + 1) o)) (looks own)
       ∙ read t ts (pass ts) line own seen h e
 
   -- ---- the words

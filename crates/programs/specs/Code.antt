@@ -1,5 +1,5 @@
 -- Inner: what the passes over a text find, line by line, as the code does: it reads each line.
-use Rattle.std.specs.Prelude.{None, Option, Some, ℕ, ◌+◌, ◌-◌, ◌*◌, ◌<◌, ◌≤◌, Bool, true, false, cond, not, List, [], ◌∷◌, ◌++◌, map, ◌≡◌, eqb, leb, length, get_or, take, drop}
+use Rattle.std.specs.Prelude.{None, Option, Some, ℕ, ◌+◌, ◌-◌, ◌*◌, ◌<◌, ◌≤◌, Bool, true, false, cond, not, List, [], ◌∷◌, ◌++◌, map, ◌≡◌, eqb, leb, length, get_or, take, drop, Result, Ok, Err}
 use Rattle.labels.specs.Bytes.{key_of}
 use Rattle.labels.specs.Reading.{name_at}
 use Rattle.labels.specs.Table.{slots_of, search_in, index_in, with_label}
@@ -9,14 +9,15 @@ use Rattle.lines.specs.Reader.{line_read}
 use Rattle.lines.specs.Code.{is_end, start_of, labels_in}
 use Rattle.lines.specs.declared.Start.{Start}
 use Rattle.programs.specs.Programs.{lines_of, Teller, Label, label_at, on_saying, no_labels, labels_from, index_of}
+use Rattle.told.specs.Told.{done_told, refused_told}
 use Rattle.told.specs.declared.Told.{Told}
 use Rattle.programs.specs.Promise.{left_cleared, left_of}
 use Rattle.programs.specs.declared.spans.Span.{Span}
-use Rattle.programs.specs.declared.checking.Step.{Step}
-use Rattle.programs.specs.declared.checking.Checked.{Checked}
+use Rattle.programs.specs.declared.spans.TextLine.{TextLine}
+use Rattle.programs.specs.declared.spans.TextLines.{TextLines}
+use Rattle.std.specs.Option.{MatchOption}
 use Rattle.programs.specs.declared.noting.Tally.{Tally}
-use Rattle.programs.specs.declared.noting.Met.{Met}
-use Rattle.programs.specs.declared.noting.Labels.{Labels}
+use Rattle.programs.specs.declared.Failure.{Failure}
 
 abbrev pub reader : List ℕ → Teller
 reader t = λ look. line_read look t
@@ -43,6 +44,14 @@ pub record Spans (s : List ℕ) (at : ℕ) (r : Span) : Type 0 where
   pub on : at < r.next
   pub within : r.next ≤ length s
 
+-- what a text's lines give one after another
+abbrev pub line_steps : TextLines → Option TextLine → TextLines → Type 0
+line_steps s r t =
+    (t.text ≡ s.text)
+    × MatchOption r ((length s.text.now ≤ s.at) × (t.at ≡ s.at) × (t.before ≡ s.before))
+    (λ l. (l.at ≡ s.at) × (l.number ≡ s.before + 1) × (t.before ≡ l.number)
+    × ((r : Span) × Spans s.text.now s.at r × (l.bytes.now ≡ take (r.stop - s.at) (drop s.at s.text.now)) × (t.at ≡ r.next)))
+
 -- ---- labels: the number of the first line that defines one again, or 0; `own` instructions and the labels `seen` stand before a line
 abbrev pub unless_seen : Option ℕ → ℕ → ℕ → ℕ
 unless_seen None a b = a
@@ -65,30 +74,30 @@ abbrev pub second_by : ℕ → ℕ → ℕ
 second_by second line = cond (eqb second 0) line second
 
 pub record After : Type 0 where
-  pub met : Met
+  pub met : Result Tally Failure
   pub table : List ℕ
 
-abbrev pub after : Met → List ℕ → After
+abbrev pub after : Result Tally Failure → List ℕ → After
 after met table = record { met = met; table = table }
 
-abbrev pub defined : ℕ → Tally → Met
-defined second t = Met.Go (record { own = t.own; count = t.count + 1; second = second })
+abbrev pub defined : ℕ → Tally → Result Tally Failure
+defined second t = Ok (record { own = t.own; count = t.count + 1; second = second })
 
 abbrev pub slot_after : Slot → List ℕ → ℕ → ℕ → ℕ → Tally → After
 slot_after (Slot.Held k) table place key line t = after (defined (second_by t.second line) t) table
 slot_after (Slot.Free k) table place key line t = after (defined t.second t) (with_label (Slot.Free k) table place key t.own)
-slot_after Slot.Full table place key line t = after Met.Short table
+slot_after Slot.Full table place key line t = after (Err Failure.NoRoom) table
 
 abbrev pub label_after : List ℕ → List ℕ → ℕ → ℕ → Tally → After
 label_after text table place line t =
-    cond (leb (slots_of table) t.count) (after Met.Short table)
+    cond (leb (slots_of table) t.count) (after (Err Failure.NoRoom) table)
     (slot_after (search_in text table (name_at text place)) table place (key_of (name_at text place)) line t)
 
 abbrev pub start_after : List ℕ → List ℕ → Start → ℕ → ℕ → Tally → After
-start_after text table Start.Blank at line t = after (Met.Go t) table
+start_after text table Start.Blank at line t = after (Ok t) table
 start_after text table (Start.Label p) at line t = label_after text table (at + p) line t
-start_after text table (Start.Word p e) at line t = after (Met.Go (one_more t)) table
-start_after text table Start.Other at line t = after (Met.Go (one_more t)) table
+start_after text table (Start.Word p e) at line t = after (Ok (one_more t)) table
+start_after text table Start.Other at line t = after (Ok (one_more t)) table
 
 -- a line that is not empty and ends in neither a space nor a colon
 abbrev pub is_plain : List ℕ → Bool
@@ -103,25 +112,26 @@ pub record Gives (text table : List ℕ) (second : ℕ) : Type 0 where
   pub gives : (name : List ℕ) → index_in text table name ≡ index_of (labels_from (tellers_of text) 0) name
   pub second_is : second ≡ second_from (tellers_of text) 1 0 []
 
-abbrev pub NotedAll : List ℕ → List ℕ → Labels → Type 0
-NotedAll text table (Labels.All second) = Gives text table second
-NotedAll text table Labels.Short = length table < 3 * length (labels_from (tellers_of text) 0)
+abbrev pub NotedAll : List ℕ → List ℕ → Result ℕ Failure → Type 0
+NotedAll text table (Ok second) = Gives text table second
+NotedAll text table (Err Failure.NoRoom) = length table < 3 * length (labels_from (tellers_of text) 0)
+NotedAll text table (Err (Failure.BadLine n)) = ⊥
 
 -- ---- the first bad line: one that is wrong, or defines a label again
-abbrev pub step_by : Bool → ℕ → Saying → Step
-step_by again own x = on_saying x (Step.Go own) (λ name. cond again Step.Bad (Step.Go own)) (λ w. Step.Go (own + 1)) Step.Bad
+abbrev pub step_by : Bool → ℕ → ℕ → Saying → Result ℕ Failure
+step_by again line own x = on_saying x (Ok own) (λ name. cond again (Err (Failure.BadLine line)) (Ok own)) (λ w. Ok (own + 1)) (Err (Failure.BadLine line))
 
-unfoldable pub line_step : List ℕ → List ℕ → Bool → List ℕ → ℕ → Step
-line_step text table again t own = step_by again own (line_read (labels_in text table own) t)
+unfoldable pub line_step : List ℕ → List ℕ → Bool → ℕ → List ℕ → ℕ → Result ℕ Failure
+line_step text table again line t own = step_by again line own (line_read (labels_in text table own) t)
 
-abbrev pub on_step : Step → (ℕ → Checked) → Checked → Checked
-on_step (Step.Go own) go b = go own
-on_step Step.Bad go b = b
+abbrev pub on_step : Result ℕ Failure → (ℕ → Result ℕ Failure) → Result ℕ Failure
+on_step (Ok own) go = go own
+on_step (Err f) go = Err f
 
-unfoldable pub check_from : List ℕ → List ℕ → ℕ → List (List ℕ) → ℕ → ℕ → Checked
-check_from text table second [] line own = Checked.Words own
+unfoldable pub check_from : List ℕ → List ℕ → ℕ → List (List ℕ) → ℕ → ℕ → Result ℕ Failure
+check_from text table second [] line own = Ok own
 check_from text table second (t ∷ ts) line own =
-    on_step (line_step text table (eqb line second) t own) (λ o. check_from text table second ts (line + 1) o) (Checked.Bad line)
+    on_step (line_step text table (eqb line second) line t own) (λ o. check_from text table second ts (line + 1) o)
 
 -- ---- the words of the lines that are instructions
 unfoldable pub words_from : List ℕ → List ℕ → List (List ℕ) → ℕ → List ℕ
@@ -131,5 +141,10 @@ words_from text table (t ∷ ts) own =
     (λ w. w ∷ words_from text table ts (own + 1)) (words_from text table ts own)
 
 -- ---- what is answered, and left in `words`
-abbrev pub Leaves : List ℕ → List ℕ → List ℕ → Told → List ℕ → Type 0
-Leaves text words table told new = left_cleared told new table ≡ left_of (tellers_of text) words table
+abbrev pub answer_of : Result ℕ Failure → Told
+answer_of (Ok length) = done_told length
+answer_of (Err Failure.NoRoom) = refused_told 9 0
+answer_of (Err (Failure.BadLine line)) = refused_told 10 line
+
+abbrev pub Leaves : List ℕ → List ℕ → List ℕ → Result ℕ Failure → List ℕ → Type 0
+Leaves text words table r new = left_cleared (answer_of r) new table ≡ left_of (tellers_of text) words table

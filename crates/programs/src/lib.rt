@@ -8,36 +8,41 @@ mod writing; // writing.rt: words, and a table of zeros
 
 ghost use Rattle.std.specs.Prelude.{◌≡◌, length, replicate};
 ghost use Rattle.programs.specs.Promise.{Assembled, leaves};
-ghost use Rattle.programs.specs.Code.{Leaves};
+ghost use Rattle.programs.specs.Code.{answer_of, Leaves};
 
-use checking::{Checked, check};
-use noting::{Labels, note_labels};
+use checking::check;
+use noting::note_labels;
 use told::{Told, done, refused};
 use writing::{clear, write_words};
 
-fn wide(n: usize) -> u64
-    ensures { result ≡ n }
-{
-    n as u64
+// Why a text gets no words: too little room for its labels or for its words, or its first bad line.
+#[derive(Clone, Copy)]
+pub(crate) enum Failure {
+    NoRoom,
+    BadLine(u64),
 }
 
-// Nothing is written before every line is known to be right.
-fn assemble_with(text: &[u8], words: &mut [u8], table: &mut [u64]) -> Told
+// The length of the words. Nothing is written before every line is known to be right.
+fn assemble_with(text: &[u8], words: &mut [u8], table: &mut [u64]) -> Result<u64, Failure>
     requires { table.old ≡ replicate (length table.old) 0 }
     ensures { Leaves text.now words.old table.old result words.new × (length table.new ≡ length table.old) }
 {
-    let Labels::All(second) = note_labels(text, table) else {
-        return refused(9, 0);
-    };
-    match check(text, table, second) {
-        Checked::Bad(line) => refused(10, line),
-        Checked::Words(n) => {
-            if wide(words.len() / 4) < n {
-                return refused(9, 0);
-            }
-            write_words(text, table, words);
-            done(4 * n)
-        }
+    let second = note_labels(text, table)?;
+    let n = check(text, table, second)?;
+    if ((words.len() / 4) as u64) < n {
+        return Err(Failure::NoRoom);
+    }
+    write_words(text, table, words);
+    Ok(4 * n)
+}
+
+fn answer(r: Result<u64, Failure>) -> Told
+    ensures { result ≡ answer_of r }
+{
+    match r {
+        Ok(length) => done(length),
+        Err(Failure::NoRoom) => refused(9, 0),
+        Err(Failure::BadLine(line)) => refused(10, line),
     }
 }
 
@@ -46,7 +51,7 @@ pub fn assemble(text: &[u8], words: &mut [u8], labels: &mut [u64]) -> Told
     ensures { Assembled text.now words.old labels.old (leaves result words.new labels.new) }
 {
     clear(labels);
-    let told = assemble_with(text, words, labels);
+    let left = assemble_with(text, words, labels);
     clear(labels);
-    told
+    answer(left)
 }

@@ -2,7 +2,8 @@
 ghost use Rattle.std.specs.Prelude.{◌≡◌, ◌+◌, ◌<◌, ◌^◌, ◌-◌, length, replicate};
 ghost use Rattle.programs.specs.Code.{one_more, second_by, after, label_after, is_plain, line_after, NotedAll};
 
-use crate::spans::span_at;
+use crate::Failure;
+use crate::spans::{TextLine, text_lines};
 use labels::table::{Noted, note};
 use lines::{Start, start_of};
 
@@ -14,27 +15,13 @@ pub(crate) struct Tally {
     pub second: u64,
 }
 
-#[derive(Clone, Copy)]
-pub(crate) enum Met {
-    Go(Tally),
-    Short,
-}
-
-// The last number of a text's tally, if there is room for its labels.
-#[derive(Clone, Copy)]
-pub(crate) enum Labels {
-    All(u64),
-    Short,
-}
-
 fn one_more(t: Tally) -> Tally
     requires { t.own < 2 ^ 64 - 1 }
     ensures { result ≡ one_more t }
 {
     Tally {
         own: t.own + 1,
-        count: t.count,
-        second: t.second,
+        ..t
     }
 }
 
@@ -45,24 +32,30 @@ fn first(second: u64, line: u64) -> u64
 }
 
 // A label's definition, the name at a place.
-fn note_label(text: &[u8], table: &mut [u64], place: usize, line: u64, t: Tally) -> Met
+fn note_label(
+    text: &[u8],
+    table: &mut [u64],
+    place: usize,
+    line: u64,
+    t: Tally,
+) -> Result<Tally, Failure>
     ensures { after result table.new ≡ label_after text.now table.old place line t }
 {
     if table.len() / 3 <= t.count {
-        return Met::Short;
+        return Err(Failure::NoRoom);
     }
     match note(text, table, place, t.own) {
-        Noted::New => Met::Go(Tally {
+        Noted::New => Ok(Tally {
             own: t.own,
             count: t.count + 1,
             second: t.second,
         }),
-        Noted::Again => Met::Go(Tally {
+        Noted::Again => Ok(Tally {
             own: t.own,
             count: t.count + 1,
             second: first(t.second, line),
         }),
-        Noted::NoRoom => Met::Short,
+        Noted::NoRoom => Err(Failure::NoRoom),
     }
 }
 
@@ -78,45 +71,33 @@ fn is_plain(s: &[u8]) -> bool
     !((c == b' ') | (c == b':'))
 }
 
-// A line of the text, from a place on.
-fn note_line(text: &[u8], table: &mut [u64], s: &[u8], at: usize, line: u64, t: Tally) -> Met
-    requires { (t.own < 2 ^ 64 - 1) × (at + length s.now < 2 ^ 64) }
-    ensures { after result table.new ≡ line_after text.now table.old s.now at line t }
+fn note_line(text: &[u8], table: &mut [u64], line: TextLine<'_>, t: Tally) -> Result<Tally, Failure>
+    requires { (t.own < 2 ^ 64 - 1) × (line.at + length line.bytes.now < 2 ^ 64) }
+    ensures { after result table.new ≡ line_after text.now table.old line.entry.bytes.now line.entry.at line.entry.number t }
 {
-    if is_plain(s) {
-        return Met::Go(one_more(t));
+    if is_plain(line.bytes) {
+        return Ok(one_more(t));
     }
-    match start_of(s) {
-        Start::Blank => Met::Go(t),
-        Start::Label(p) => note_label(text, table, at + p, line, t),
-        Start::Word(_, _) => Met::Go(one_more(t)),
-        Start::Other => Met::Go(one_more(t)),
+    match start_of(line.bytes) {
+        Start::Blank => Ok(t),
+        Start::Label(p) => note_label(text, table, line.at + p, line.number, t),
+        Start::Word(_, _) => Ok(one_more(t)),
+        Start::Other => Ok(one_more(t)),
     }
 }
 
-pub(crate) fn note_labels(text: &[u8], table: &mut [u64]) -> Labels
+// The last number of a text's tally, if there is room for its labels.
+pub(crate) fn note_labels(text: &[u8], table: &mut [u64]) -> Result<u64, Failure>
     requires { table.old ≡ replicate (length table.old) 0 }
     ensures { NotedAll text.now table.new result × (length table.new ≡ length table.old) }
 {
-    let mut at: usize = 0;
-    let mut before: u64 = 0;
-    let mut own: u64 = 0;
-    let mut count: usize = 0;
-    let mut second: u64 = 0;
-    loop {
-        if text.len() <= at {
-            return Labels::All(second);
-        }
-        let span = span_at(text, at);
-        let stop = span.stop;
-        let t = Tally { own, count, second };
-        let Met::Go(u) = note_line(text, table, &text[at..stop], at, before + 1, t) else {
-            return Labels::Short;
-        };
-        own = u.own;
-        count = u.count;
-        second = u.second;
-        before += 1;
-        at = span.next;
+    let mut t = Tally {
+        own: 0,
+        count: 0,
+        second: 0,
+    };
+    for line in text_lines(text) {
+        t = note_line(text, table, line, t)?;
     }
+    Ok(t.second)
 }

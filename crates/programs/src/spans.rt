@@ -2,13 +2,65 @@
 ghost use Rattle.std.specs.Prelude.{◌≡◌, true, ◌+◌, ◌-◌, ◌≤◌, ◌<◌, length, take, drop};
 ghost use Rattle.labels.specs.Bytes.{every};
 ghost use Rattle.labels.specs.Reading.{Passed};
-ghost use Rattle.programs.specs.Code.{is_text, stripped, Spans};
+ghost use Rattle.programs.specs.Code.{is_text, stripped, Spans, line_steps};
+ghost use Rattle.std.specs.Iterator.{at_most};
 
 use labels::text::byte;
 
-// A line of a text: where it stops, and where the next one begins.
+// A line of a text: its bytes, the place where it begins, and its number, the first being 1.
 #[derive(Clone, Copy)]
-pub(crate) struct Span {
+pub(crate) struct TextLine<'a> {
+    pub bytes: &'a [u8],
+    pub at: usize,
+    pub number: u64,
+}
+
+// The lines of a text from a place on, behind so many others.
+#[derive(Drop)]
+pub(crate) struct TextLines<'a> {
+    text: &'a [u8],
+    at: usize,
+    before: u64,
+}
+
+pub(crate) fn text_lines(text: &[u8]) -> TextLines<'_>
+    ensures { (result.text.now ≡ text.now) × (result.at ≡ 0) × (result.before ≡ 0) }
+{
+    TextLines {
+        text,
+        at: 0,
+        before: 0,
+    }
+}
+
+impl<'a> Iterator for TextLines<'a> {
+    type Item = TextLine<'a>;
+
+    ghost can_next = { λ s. (s.before ≤ s.at) × (s.at ≤ length s.text.now) };
+
+    ghost next_gives = { line_steps };
+
+    ghost remaining = { λ s. at_most (length s.text.now - s.at) };
+
+    fn next(&mut self) -> Option<TextLine<'a>> {
+        if self.text.len() <= self.at {
+            return None;
+        }
+        let at = self.at;
+        let span = span_at(self.text, at);
+        self.at = span.next;
+        self.before += 1;
+        Some(TextLine {
+            bytes: &self.text[at..span.stop],
+            at,
+            number: self.before,
+        })
+    }
+}
+
+// Where a line stops, and where the next one begins.
+#[derive(Clone, Copy)]
+struct Span {
     pub stop: usize,
     pub next: usize,
 }
@@ -18,16 +70,12 @@ fn next_feed(s: &[u8], at: usize) -> usize
     requires { at ≤ length s.now }
     ensures { Passed is_text s.now at result }
 {
-    let mut n = at;
-    loop {
-        if s.len() <= n {
+    for n in at..s.len() {
+        if s[n] == b'\n' {
             return n;
         }
-        if s[n] == 10 {
-            return n;
-        }
-        n += 1;
     }
+    s.len()
 }
 
 // Whether none of eight bytes is an LF: `&` tests all eight, so that the machine can do so at once.
@@ -51,15 +99,10 @@ fn line_feed(s: &[u8], at: usize) -> usize
     ensures { Passed is_text s.now at result }
 {
     let mut n = at;
-    loop {
-        if s.len() - n < 8 {
-            return next_feed(s, n);
-        }
-        if !eight_are_text(s, n) {
-            return next_feed(s, n);
-        }
+    while n + 8 <= s.len() && eight_are_text(s, n) {
         n += 8;
     }
+    next_feed(s, n)
 }
 
 // Where the line stops that an LF at n ends: a CR before it belongs to the line's end.
@@ -78,7 +121,7 @@ fn before_end(s: &[u8], at: usize, n: usize) -> usize
 }
 
 // The line at a place.
-pub(crate) fn span_at(s: &[u8], at: usize) -> Span
+fn span_at(s: &[u8], at: usize) -> Span
     requires { at < length s.now }
     ensures { Spans s.now at result }
 {

@@ -1,7 +1,8 @@
 use mathlib.Core.Path.{sym, ◌∙◌}
 use lib.ListN.{length}
 use Rattle.checkpoint.specs.Calls.{misused, broken, restored}
-use Rattle.checkpoint.proofs.Calls.{fits_whole, fits-few, readable-memory, no-image, an-image, enough}
+use Rattle.checkpoint.proofs.Fits.{fits_few}
+use Rattle.checkpoint.proofs.Calls.{readable-memory, no-image, an-image, enough}
 use Rattle.checkpoint.proofs.zkir_checkpoint_read.Goals as goal
 
 pub returns-then-not-readable : goal.returns-then-not-readable
@@ -10,7 +11,7 @@ returns-then-not-readable c = rw c.refused.ensures (misused (sym c.readable.ensu
 pub passes-requires : goal.passes-requires
 passes-requires c =
     let a = c.args in
-    fits-few (length a.memory.now) (readable-memory a.state.now a.memory.now (sym c.readable.ensures ∙ c.if-not-readable.false))
+    fits_few (length a.memory.now) (readable-memory a.state.now a.memory.now (sym c.readable.ensures ∙ c.if-not-readable.false))
 
 pub returns-then-not-passes : goal.returns-then-not-passes
 returns-then-not-passes c =
@@ -18,20 +19,6 @@ returns-then-not-passes c =
     let e = sym c.readable.ensures ∙ c.if-not-readable.false in
     let f = readable-memory a.state.now a.memory.now e in
     rw c.refused-then-not-passes.ensures (broken e (no-image a.image.now a.memory.now f (sym c.passes.ensures ∙ c.if-not-passes.true)))
-
-pub restore-requires-clause-pages_bound : goal.restore-requires-clause-pages_bound
-restore-requires-clause-pages_bound c =
-    let a = c.args in
-    let e = sym c.readable.ensures ∙ c.if-not-readable.false in
-    let f = readable-memory a.state.now a.memory.now e in
-    fits-few (length a.memory.now) f
-
-pub restore-requires-clause-memory_len : goal.restore-requires-clause-memory_len
-restore-requires-clause-memory_len c =
-    let a = c.args in
-    let e = sym c.readable.ensures ∙ c.if-not-readable.false in
-    let f = readable-memory a.state.now a.memory.now e in
-    fits_whole (length a.memory.now) f
 
 pub restore-requires-clause-in_bounds : goal.restore-requires-clause-in_bounds
 restore-requires-clause-in_bounds c =
@@ -45,7 +32,7 @@ returns c =
     let a = c.args in
     let e = sym c.readable.ensures ∙ c.if-not-readable.false in
     let f = readable-memory a.state.now a.memory.now e in
-    let bytes = c.shared_slice_known-1.given in
+    let bytes = c.type_inv.image in
     let t = sym c.passes.ensures ∙ c.if-not-passes.false in
     rw (c.done.ensures, c.restore.ensures.0, c.restore.ensures.1)
     (restored e (an-image a.image.now a.memory.now f (λ k. (bytes k).fits) t))

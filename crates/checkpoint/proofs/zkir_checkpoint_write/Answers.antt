@@ -1,7 +1,6 @@
 use mathlib.Core.Path.{sym, ◌∙◌}
 use native.Mathlib.Omega.{arith}
-use lib.ListN.{length}
-use Rattle.checkpoint.proofs.Calls.{fits_whole, fits-few, writable-memory, writable-state, held-few, size_is}
+use Rattle.checkpoint.proofs.Calls.{writable-state, held-few, size_is}
 use Rattle.checkpoint.proofs.Calls.{writing-misused, writing-small, writing-stored}
 use Rattle.checkpoint.proofs.zkir_checkpoint_write.Goals as goal
 
@@ -9,18 +8,6 @@ pub returns-then-not-writable : goal.returns-then-not-writable
 returns-then-not-writable c =
     let a = c.args in
     rw c.refused.ensures (writing-misused a.state.now a.memory.now a.image.now (sym c.writable.ensures ∙ c.if-not-writable.true))
-
-pub held-n-requires-clause-pages_bound : goal.held-n-requires-clause-pages_bound
-held-n-requires-clause-pages_bound c =
-    let a = c.args in
-    let e = sym c.writable.ensures ∙ c.if-not-writable.false in
-    fits-few (length a.memory.now) (writable-memory a.state.now a.memory.now e)
-
-pub held-n-requires-clause-memory_len : goal.held-n-requires-clause-memory_len
-held-n-requires-clause-memory_len c =
-    let a = c.args in
-    let e = sym c.writable.ensures ∙ c.if-not-writable.false in
-    fits_whole (length a.memory.now) (writable-memory a.state.now a.memory.now e)
 
 pub overflow_mul-size : goal.overflow_mul-size
 overflow_mul-size c =
@@ -39,18 +26,6 @@ returns-then-image-size c =
     let size = size_is a.state.now a.memory.now e in
     rw c.refused-then-image-size.ensures
     (writing-small a.state.now a.memory.now a.image.now e (omega (arith, c.if-image-size.true, c.held-n.ensures, size)))
-
-pub put_image-requires-clause-pages_bound : goal.put_image-requires-clause-pages_bound
-put_image-requires-clause-pages_bound c =
-    let a = c.args in
-    let e = sym c.writable.ensures ∙ c.if-not-writable.false in
-    fits-few (length a.memory.now) (writable-memory a.state.now a.memory.now e)
-
-pub put_image-requires-clause-memory_len : goal.put_image-requires-clause-memory_len
-put_image-requires-clause-memory_len c =
-    let a = c.args in
-    let e = sym c.writable.ensures ∙ c.if-not-writable.false in
-    fits_whole (length a.memory.now) (writable-memory a.state.now a.memory.now e)
 
 pub put_image-requires-clause-state_len : goal.put_image-requires-clause-state_len
 put_image-requires-clause-state_len c =

@@ -10,13 +10,13 @@ returns-then-words-ne0 c =
 pub returns-then-left-eq0 : goal.returns-then-left-eq0
 returns-then-left-eq0 c =
     let a = c.args in
-    let room = sym c.measure.ensures ∙ c.in-Left.is in
+    let room = sym c.measure.ensures ∙ c.in-Ok.is in
     rw c.refused-then-left-eq0.ensures (short a.words.now a.text.now c.if-words-ne0.false _ room c.if-left-eq0.true)
 
 pub put_lines-end-requires-clause-words_in_bounds : goal.put_lines-end-requires-clause-words_in_bounds
 put_lines-end-requires-clause-words_in_bounds c =
     let a = c.args in
-    let room = sym c.measure.ensures ∙ c.in-Left.is in
+    let room = sym c.measure.ensures ∙ c.in-Ok.is in
     room-enough a.words.now a.text.now c.if-words-ne0.false _ room c.if-left-eq0.false
 
 pub returns-else-left-eq0 : goal.returns-else-left-eq0
@@ -24,14 +24,14 @@ returns-else-left-eq0 c =
     let a = c.args in
     let room =
     sym c.measure.ensures
-    ∙ c.in-Left.is in
+    ∙ c.in-Ok.is in
     rw c.done.ensures
     (written a.words.now a.text.now c.if-words-ne0.false _ room
     c.if-left-eq0.false _ _ c.put_lines-end.ensures)
 
-pub returns-in-Refused : goal.returns-in-Refused
-returns-in-Refused c =
+pub returns-in-Err : goal.returns-in-Err
+returns-in-Err c =
     let a = c.args in
-    let room = sym c.measure.ensures ∙ c.in-Refused.is in
-    rw (c.refused-in-Refused.ensures, c.particular_of.ensures, c.number_of.ensures)
+    let room = sym c.measure.ensures ∙ c.in-Err.is in
+    rw (c.refused-in-Err.ensures, c.particular_of.ensures, c.number_of.ensures)
     (stopped a.words.now a.text.now c.if-words-ne0.false _ _ room)

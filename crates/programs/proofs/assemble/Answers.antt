@@ -3,13 +3,7 @@ use Rattle.programs.proofs.assemble.Goals as goal
 
 pub returns : goal.returns
 returns c =
-    let a =
-    c.args in
-    left-cleared a.text.now a.words.now a.labels.now
-    c.assemble_with-told.result
-    c.assemble_with-told.new.words
-    c.clear.new.table
-    c.assemble_with-told.new.table c.clear-2.new.table
-    c.clear.ensures
-    c.assemble_with-told.ensures.0
-    c.assemble_with-told.ensures.1 c.clear-2.ensures
+    let a = c.args in
+    rw c.answer.ensures
+    (left-cleared a.text.now a.words.now a.labels.now _ c.assemble_with-left.new.words c.clear.new.table c.assemble_with-left.new.table c.clear-2.new.table
+    c.clear.ensures c.assemble_with-left.ensures.0 c.assemble_with-left.ensures.1 c.clear-2.ensures)

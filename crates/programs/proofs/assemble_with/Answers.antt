@@ -1,72 +1,40 @@
 use Rattle.programs.proofs.Ends.{left-short, left-bad, left-small, words-fit, left-done}
-use Rattle.programs.specs.Promise.{left_cleared}
-use Rattle.told.specs.Told.{done_told}
-use Rattle.told.specs.declared.Told.{Told}
-use native.Mathlib.Omega.{arith}
-use Prim.Native.Nat.{ℕ, ◌*◌}
-use mathlib.Core.List.{List}
-use mathlib.Core.Path.{sym, ap, ◌∙◌}
+use Rattle.std.proofs.Common.{arith, ◌≡◌, Err, sym, ◌∙◌}
 use Rattle.programs.proofs.assemble_with.Goals as goal
 
-pub returns-in_default : goal.returns-in_default
-returns-in_default c =
+pub returns-in_err-second : goal.returns-in_err-second
+returns-in_err-second c =
     let a = c.args in
-    let n = c.note_labels.ensures in (
-      ap (λ (t : Told). left_cleared t a.words.now a.table.now) c.refused.ensures
-          ∙ left-short a.text.now a.words.now a.table.now _ _ n.0 c.in_default.is n.1,
-      n.1,
-    )
+    let f = c.in_err-second.field-0.0 in
+    let noted = c.note_labels.ensures in
+    let is : c.from_residual.result ≡ Err f = grind arith in
+    rw is (left-short a.text.now a.words.now a.table.now c.note_labels.new.table f (rw c.in_err-second.was at noted.0) noted.1, noted.1)
 
-pub returns-then-wide-n : goal.returns-then-wide-n
-returns-then-wide-n c =
-    let a =
-    c.args in
-    let n = c.note_labels.ensures in (
-      ap (λ (t : Told). left_cleared t a.words.now a.table.now) c.refused-then-wide-n.ensures
-          ∙ left-small a.text.now a.words.now a.table.now _ _ _ n.0
-          c.in-All.is n.1 _
-          (sym c.check.ensures ∙ c.in-Words.is)
-          (omega (arith, c.wide.ensures, c.if-wide-n.true)),
-      n.1,
-    )
+pub returns-in_err-n : goal.returns-in_err-n
+returns-in_err-n c =
+    let a = c.args in
+    let f = c.in_err-n.field-0.0 in
+    let noted = c.note_labels.ensures in
+    let is : c.from_residual-in_err-n.result ≡ Err f = grind arith in
+    rw is (left-bad a.text.now a.words.now a.table.now _ _ (rw c.in_ok-second.was at noted.0) noted.1 f (sym c.check.ensures ∙ c.in_err-n.was), noted.1)
+
+pub returns-then-words-n : goal.returns-then-words-n
+returns-then-words-n c =
+    let a = c.args in
+    let noted = c.note_labels.ensures in
+    (left-small a.text.now a.words.now a.table.now _ _ (rw c.in_ok-second.was at noted.0) noted.1 _ (sym c.check.ensures ∙ c.in_ok-n.was) c.if-words-n.true, noted.1)
 
 pub write_words-requires : goal.write_words-requires
 write_words-requires c =
-    let a =
-    c.args in
-    let n = c.note_labels.ensures in
-    words-fit a.text.now a.words.now a.table.now _ _ _ n.0
-    c.in-All.is n.1 _
-    (sym c.check.ensures ∙ c.in-Words.is)
-    (omega (arith, c.wide.ensures, c.if-wide-n.false))
-
-pub returns-in-Bad : goal.returns-in-Bad
-returns-in-Bad c =
     let a = c.args in
-    let n = c.note_labels.ensures in (
-      ap (λ (t : Told). left_cleared t a.words.now a.table.now) c.refused-in-Bad.ensures
-          ∙ left-bad a.text.now a.words.now a.table.now _ _ _ n.0
-          c.in-All.is n.1 _
-          (sym c.check.ensures ∙ c.in-Bad.is),
-      n.1,
-    )
+    let noted = c.note_labels.ensures in
+    words-fit a.text.now a.words.now a.table.now _ _ (rw c.in_ok-second.was at noted.0) noted.1 _ (sym c.check.ensures ∙ c.in_ok-n.was) c.if-words-n.false
 
-pub returns-else-wide-n : goal.returns-else-wide-n
-returns-else-wide-n c =
-    let a =
-    c.args in
-    let n =
-    c.note_labels.ensures in (
-      ap (λ (t : Told). left_cleared t c.write_words.new.words a.table.now) c.done.ensures
-          ∙ ap
-          (λ (v : List ℕ). left_cleared (done_told (4 * c.in-Words.n)) v
-          a.table.now)
-          c.write_words.ensures
-          ∙ left-done a.text.now a.words.now a.table.now _ _ _ n.0
-          c.in-All.is n.1 _
-          (sym c.check.ensures
-          ∙ c.in-Words.is)
-          (omega
-          (arith, c.wide.ensures, c.if-wide-n.false)),
-      n.1,
+pub returns : goal.returns
+returns c =
+    let a = c.args in
+    let noted = c.note_labels.ensures in (
+      rw c.write_words.ensures
+          (left-done a.text.now a.words.now a.table.now _ _ (rw c.in_ok-second.was at noted.0) noted.1 _ (sym c.check.ensures ∙ c.in_ok-n.was) c.if-words-n.false),
+      noted.1,
     )

@@ -1,24 +1,32 @@
-use Rattle.checkpoint.proofs.Steps.{fill_stop, fill_more, fill_end}
-use borrow.Author.Rules.{rules}
-use mathlib.Core.Path.{sym, ◌∙◌}
+use Rattle.checkpoint.proofs.Steps.{fill_end, fill_passed, fill_zero, fill_held, part-long}
+use Rattle.checkpoint.specs.Image.{PAGE_BYTES}
+use Rattle.std.proofs.Common.{arith, sym, ◌∙◌}
+use Rattle.std.proofs.lemmas.List.{take_rest}
 use Rattle.checkpoint.proofs.reading.fill_pages.Goals as goal
 
-pub returns-then-idle : goal.returns-then-idle
-returns-then-idle c =
-    let a = c.args in
+pub loop-p-preserved-in_default : goal.loop-p-preserved-in_default
+loop-p-preserved-in_default c =
     let l = c.loop-p in
-    fill_stop a.image.now a.pages l.p l.place (search rules) (sym c.idle.ensures ∙ c.if-idle.true) ∙ l.invariant.2
+    sym (fill_passed l.rest.now c.args.pages l.p (omega arith) c.in_default.ensures) ∙ l.invariant
+
+pub all_zero-requires : goal.all_zero-requires
+all_zero-requires c = rw c.in-Some.ensures.2 (omega (arith, part-long c.loop-p.rest.now 8 PAGE_BYTES c.in-Some.ensures.1))
+
+pub returns-then-all_zero : goal.returns-then-all_zero
+returns-then-all_zero c =
+    let l = c.loop-p in
+    let page = c.in-Some.ensures in
+    let zero = rw page.2 at (sym c.all_zero.ensures ∙ c.if-all_zero.true) in
+    sym (fill_zero l.rest.now c.args.pages l.p (omega arith) page.0 zero) ∙ l.invariant
 
 pub loop-p-preserved : goal.loop-p-preserved
 loop-p-preserved c =
-    let a = c.args in
     let l = c.loop-p in
-    let reach = c.reach_of-place.ensures in
-    let held = sym c.idle.ensures ∙ c.if-idle.false in
-    (search rules, reach.1, sym (fill_more a.image.now a.pages l.p l.place _ (search rules) held reach.0) ∙ l.invariant.2)
+    let page = c.in-Some.ensures in
+    let some = rw page.2 at (sym c.all_zero.ensures ∙ c.if-all_zero.false) in
+    rw (take_rest l.rest.now 4104) (sym (fill_held l.rest.now c.args.pages l.p (omega arith) page.0 some) ∙ l.invariant)
 
 pub returns : goal.returns
 returns c =
-    let a = c.args in
     let l = c.loop-p in
-    fill_end a.image.now a.pages l.p l.place (search rules) (search rules) ∙ l.invariant.2
+    c.is_empty.ensures ∙ fill_end l.rest.now c.args.pages l.p (omega arith) ∙ l.invariant

@@ -1,28 +1,25 @@
-use Rattle.checkpoint.proofs.Steps.{body-none, body-size, body-stored}
+use Rattle.checkpoint.proofs.Steps.{body-none, body-size, body-stored, put_mid-sets}
 use Rattle.checkpoint.specs.Image.{PAGE_BYTES}
-use lib.ListN.{length-take, length-drop}
-use lib.ListN.{length, take, drop}
-use native.Mathlib.Omega.{arith}
-use mathlib.Core.Path.{◌≡◌, refl, sym, ◌∙◌}
-use borrow.Author.Rules.{rules}
+use Rattle.std.proofs.Common.{arith, ◌≡◌, ◌+◌, ◌-◌, refl, sym, ◌∙◌}
 use Rattle.checkpoint.proofs.writing.put_body.Goals as goal
 
 pub returns-then-all_zero : goal.returns-then-all_zero
 returns-then-all_zero c =
     let a = c.args in
-    rw (body-none a.at (take PAGE_BYTES (drop a.at a.memory.now)) (sym c.all_zero.ensures ∙ c.if-all_zero.true)) (search rules, refl)
+    rw (body-none a.at a.page.now (sym c.all_zero.ensures ∙ c.if-all_zero.true)) (omega arith, refl)
 
-pub copy-requires-clause-n_in_bounds : goal.copy-requires-clause-n_in_bounds
-copy-requires-clause-n_in_bounds c =
+pub slice_bounds-copy_from_slice-end : goal.slice_bounds-copy_from_slice-end
+slice_bounds-copy_from_slice-end c =
     let a = c.args in
-    let page = take PAGE_BYTES (drop a.at a.memory.now) in
-    let long : length page ≡ PAGE_BYTES = simp (length-take, length-drop) (omega arith) in
-    omega (arith, body-size a.at page long (sym c.all_zero.ensures ∙ c.if-all_zero.false))
+    omega (arith, body-size a.at a.page.now c.requires.page_len (sym c.all_zero.ensures ∙ c.if-all_zero.false))
 
 pub returns : goal.returns
 returns c =
     let a = c.args in
-    let page = take PAGE_BYTES (drop a.at a.memory.now) in
-    let long : length page ≡ PAGE_BYTES = simp (length-take, length-drop) (omega arith) in
     let full = sym c.all_zero.ensures ∙ c.if-all_zero.false in
-    (omega (arith, body-size a.at page long full), rw (c.copy.ensures, c.put_number.ensures) (body-stored a.at page _ a.place full))
+    let size = body-size a.at a.page.now c.requires.page_len full in
+    let width : a.place + 4104 - (a.place + 8) ≡ PAGE_BYTES = omega arith in (
+      omega arith,
+      rw (width, c.copy_from_slice.ensures.after, put_mid-sets c.put_number.new.m a.page.now (a.place + 8) PAGE_BYTES (omega arith) c.requires.page_len, c.put_number.ensures)
+          (body-stored a.at a.page.now _ a.place full),
+    )

@@ -1,24 +1,28 @@
-use mathlib.Core.Path.{◌∙◌, sym}
+use Rattle.std.proofs.Common.{rules, arith, sym, ◌∙◌}
+use Rattle.std.specs.Slice.Iter.{chunks_exact_rest}
 use native.Mathlib.Nat.{sub-zero}
-use native.Mathlib.Omega.{arith}
 use Rattle.printing.specs.Print.{print_of}
 use Rattle.printing.proofs.Rooms.{room-more, room-none}
 use Rattle.printing.proofs.Words.{words-none}
 use Rattle.printing.proofs.measure.measure.Goals as goal
 
-pub returns-then-words-at : goal.returns-then-words-at
-unfolding print_of
-returns-then-words-at c = rw (words-none c.loop-at.at c.args.words.now (omega arith), sub-zero) at c.loop-at.invariant.2
-
-pub loop-at-preserved : goal.loop-at-preserved
-loop-at-preserved c =
-    let l = c.loop-at in
-    let is = sym c.parts_at.ensures ∙ c.in-Ok.is in
-    let more = room-more l.at c.args.words.now (omega arith) _ is l.left in
-    (omega arith, omega arith, rw (c.less-left.ensures, c.line_length.ensures) (sym more ∙ l.invariant.2))
+pub loop-word-preserved : goal.loop-word-preserved
+loop-word-preserved c =
+    let l = c.loop-word in
+    let steps = c.in-Some.ensures.steps in
+    let is = sym c.parts_in.ensures.value ∙ c.in-Ok.is in
+    let more = room-more _ _ _ steps.1.0 (steps.1.1 ∙ l.invariant.2) _ is l.left in
+    (search rules, tt, search rules, rw (c.saturating_sub-left.ensures, c.line_length.ensures) (sym more ∙ l.invariant.3))
 
 pub returns-in-Err : goal.returns-in-Err
 returns-in-Err c =
-    let l = c.loop-at in
-    let is = sym c.parts_at.ensures ∙ c.in-Err.is in
-    sym (room-none l.at c.args.words.now (omega arith) _ is l.left) ∙ l.invariant.2
+    let l = c.loop-word in
+    let steps = c.in-Some.ensures.steps in
+    let is = sym c.parts_in.ensures.value ∙ c.in-Err.is in
+    sym (room-none _ _ _ steps.1.0 (steps.1.1 ∙ l.invariant.2) _ is l.left) ∙ l.invariant.3
+
+pub returns : goal.returns
+unfolding print_of
+returns c =
+    let l = c.loop-word in
+    rw (words-none (chunks_exact_rest l.word-iterator) (omega (arith, c.in-None.ensures.steps.1.0, l.invariant.2)), sub-zero) at l.invariant.3

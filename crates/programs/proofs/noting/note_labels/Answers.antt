@@ -1,48 +1,49 @@
 use Rattle.programs.proofs.Meets.{kept-go, kept-short}
 use Rattle.programs.proofs.Notes.{noting-none, noting-all}
-use Rattle.programs.specs.declared.noting.Met.{Met}
-use Rattle.programs.specs.Code.{after}
-use native.Mathlib.Omega.{arith}
-use mathlib.Core.Path.{refl, sym, ap, ◌∙◌}
+use Rattle.programs.proofs.Turns.{line_next}
+use Rattle.programs.specs.Code.{Spans}
+use Rattle.std.proofs.Common.{◌≡◌, Err, length, arith, refl, ap}
 use Rattle.programs.proofs.noting.note_labels.Goals as goal
 
-pub loop-at-init : goal.loop-at-init
-loop-at-init c = (refl, omega arith, omega arith, omega arith, noting-none c.args.text.now c.args.table.now c.requires)
+pub loop-line-init : goal.loop-line-init
+loop-line-init c =
+    let new = c.text_lines-line-items.ensures in
+    rw (c.into_iter-line-iterator.ensures.into_iter_gives, new.1, new.2, new.0)
+    ((omega arith, omega arith), tt, refl, omega arith, noting-none c.args.text.now c.args.table.now c.requires)
 
-pub returns-then-text-at : goal.returns-then-text-at
-returns-then-text-at c =
-    let l = c.loop-at in (
-      noting-all c.args.text.now l.table l.at l.before l.own l.count l.second l.invariant.4
-          c.if-text-at.true,
-      l.invariant.0,
+pub returns-in_err-t : goal.returns-in_err-t
+returns-in_err-t c =
+    let text = c.args.text.now in
+    let l = c.loop-line in
+    let it = l.line-iterator in
+    let steps = c.in-Some.ensures.steps in
+    let f = c.in_err-t.field-0.0 in
+    let spans : Spans text it.at steps.1.3.0 = rw l.invariant.2 at steps.1.3.1 in
+    let e = rw (c.in_err-t.was, steps.1.3.2, steps.1.0, steps.1.1, l.invariant.2) at c.note_line.ensures in
+    let k = kept-short text l.table it.at it.before l.t l.invariant.4 steps.1.3.0 spans f _ e in
+    let is : c.from_residual.result ≡ Err f = grind arith in
+    (rw is k.0, omega (arith, k.1))
+
+pub loop-line-preserved : goal.loop-line-preserved
+loop-line-preserved c =
+    let text = c.args.text.now in
+    let l = c.loop-line in
+    let it = l.line-iterator in
+    let steps = c.in-Some.ensures.steps in
+    let n = line_next it c.next.new.self c.in-Some.line text l.invariant.2 steps in
+    let spans : Spans text it.at steps.1.3.0 = rw l.invariant.2 at steps.1.3.1 in
+    let e = rw (c.in_ok-t.was, steps.1.3.2, steps.1.0, steps.1.1, l.invariant.2) at c.note_line.ensures in
+    let k = kept-go text l.table it.at it.before l.t l.invariant.4 steps.1.3.0 spans _ _ e in (
+      (omega (arith, n.before, n.on, l.invariant.0.0), omega (arith, n.within, ap length n.same)),
+      tt,
+      n.same,
+      omega (arith, n.on, l.invariant.3, k.0.1),
+      rw (n.before, steps.1.3.3) k.0.0,
     )
 
-pub returns-in_default : goal.returns-in_default
-returns-in_default c =
-    let a = c.args in
-    let l = c.loop-at in
-    let k =
-    kept-short a.text.now l.table l.at l.before _ l.invariant.4
-    c.span_at-span.result
-    c.span_at-span.ensures _
-    (ap (λ (m : Met). after m c.note_line.new.table) (sym c.in_default.is)
-    ∙ c.note_line.ensures) in
-    (k.0, k.1 ∙ l.invariant.0)
-
-pub loop-at-preserved : goal.loop-at-preserved
-loop-at-preserved c =
-    let a = c.args in
-    let l = c.loop-at in
-    let k =
-    kept-go a.text.now l.table l.at l.before _ l.invariant.4
-    c.span_at-span.result
-    c.span_at-span.ensures _ _
-    (ap (λ (m : Met). after m c.note_line.new.table) (sym c.in-Go.is)
-    ∙ c.note_line.ensures) in
-    let on = c.span_at-span.ensures.on in (
-      k.1 ∙ l.invariant.0,
-      c.span_at-span.ensures.within,
-      omega (arith, l.invariant.2),
-      omega (arith, l.invariant.3, k.0.1),
-      k.0.0,
-    )
+pub returns : goal.returns
+returns c =
+    let l = c.loop-line in
+    let it = l.line-iterator in
+    let end = c.in-None.ensures.steps.1.0 in
+    (noting-all c.args.text.now l.table it.at it.before l.t.own l.t.count l.t.second l.invariant.4 (omega (arith, end, ap length l.invariant.2)), omega arith)

@@ -1,12 +1,12 @@
+use Rattle.std.proofs.Common.{◌≡◌, ◌≤◌}
 use Rattle.programs.proofs.Notes.{Noting}
-use lib.ListN.{length}
-use Prim.Native.Nat.{◌-◌, ◌≤◌}
-use mathlib.Core.Path.{◌≡◌}
 use Rattle.programs.proofs.noting.note_labels.Given as goal
 
-abbrev pub invariant-loop-at : goal.invariant-loop-at
-invariant-loop-at l =
-    (length l.table ≡ length l.initial.table) × (l.at ≤ length l.text) × (l.before ≤ l.at) × (l.own ≤ l.at) × Noting l.text l.table l.at l.before l.own l.count l.second
-
-abbrev pub decreases-loop-at : goal.decreases-loop-at
-decreases-loop-at l = length l.text - l.at
+abbrev pub invariant-loop-line : goal.invariant-loop-line
+invariant-loop-line l =
+    let it = l.line-iterator in
+    (goal.iterator-loop-line).can_next it
+    × (goal.iterator-loop-line).is_finite it
+    × (it.text.now ≡ l.text)
+    × (l.t.own ≤ it.at)
+    × Noting l.text l.table it.at it.before l.t.own l.t.count l.t.second

@@ -1,11 +1,6 @@
 use Rattle.programs.specs.Code.{is_text}
 use Rattle.labels.proofs.Steps.{Going}
-use lib.ListN.{length}
-use Prim.Native.Nat.{◌-◌}
 use Rattle.programs.proofs.spans.next_feed.Given as goal
 
 abbrev pub invariant-loop-n : goal.invariant-loop-n
 invariant-loop-n l = Going is_text l.s l.at l.n
-
-abbrev pub decreases-loop-n : goal.decreases-loop-n
-decreases-loop-n l = length l.s - l.n
