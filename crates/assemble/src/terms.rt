@@ -6,7 +6,7 @@ use crate::read::{
     LARGE_NUMBER, LARGE_SUM, LONE_SIGN, NO_TERM, NOT_CLOSED, Read, TOO_DEEP, UNKNOWN_LABEL, past,
 };
 use crate::values::{Both, ZERO, distance, joined, of_digits};
-use labels::table::{Found, find};
+use labels::table::find;
 use labels::text::{byte, digit, letter, skip};
 
 fn is_sign(c: u8) -> bool {
@@ -64,8 +64,8 @@ fn number(s: &[u8], start: usize) -> Read {
 
 fn label(s: &[u8], text: &[u8], table: &[u64], base: u64, at: usize) -> Read {
     match find(text, table, s, at) {
-        Found::At(index, end) => Read::Value(distance(base, index), end),
-        Found::Nothing => Read::Wrong(UNKNOWN_LABEL, at),
+        Some((index, end)) => Read::Value(distance(base, index), end),
+        None => Read::Wrong(UNKNOWN_LABEL, at),
     }
 }
 

@@ -1,5 +1,5 @@
 -- What the reader's definitions say of a line from a place on, case by case. Assumes nothing.
-use Rattle.std.proofs.Common.{◌≡◌, ℕ, zero, suc, ◌+◌, ◌-◌, ◌<◌, ◌≤◌, Bool, true, false, cond, ◌&&◌, eqb, leb, List, [], ◌∷◌, length, drop, ℤ, pos, sym, refl, ap, ◌∙◌, arith, drop_of_length-le, eq-eqb, ne_eqb, eqb-true, leb-true}
+use Rattle.std.proofs.Common.{◌≡◌, ℕ, zero, suc, ◌+◌, ◌-◌, ◌<◌, ◌≤◌, Bool, true, false, cond, ◌&&◌, eqb, leb, List, [], ◌∷◌, length, drop, ℤ, pos, sym, refl, ap, ◌∙◌, arith, Option as RustOption, Some, None, drop_of_length-le, eq-eqb, ne_eqb, eqb-true, leb-true}
 use mathlib.Core.Option.{Option}
 use Rattle.labels.specs.Bytes.{is_space, is_digit, head_of}
 use Rattle.labels.specs.Reading.{tail_of, skip, Passed}
@@ -8,7 +8,6 @@ use Rattle.labels.proofs.Spans.{both_true, tail-drop}
 use Rattle.lines.specs.Lines.{Kind, register, immediate}
 use Rattle.lines.specs.Reader.{register_read, operand_read, nothing}
 use Rattle.lines.specs.Code.{is_two, comma_read, last_read, reg_seen}
-use Rattle.lines.specs.declared.operands.Reg.{Reg}
 
 -- ---- a register
 module _ (s : List ℕ) (at : ℕ) where
@@ -86,12 +85,12 @@ module _ (k : Kind) (look : List ℕ → Option ℤ) (s : List ℕ) (at m : ℕ)
   last-yes v n e h = ap (onto (λ v u. cond (nothing u) (got v u) bad)) (reads _ e) ∙ ap (λ (c : Bool). cond c (got v (drop n s)) bad) (nothing-end s n h)
 
 -- a register and the spaces after it
-module _ (look : List ℕ → Option ℤ) (s : List ℕ) (m : ℕ) (r : Reg) (e : register_read (drop m s) ≡ reg_seen s r) where
-  pub operand-bad : r ≡ Reg.Bad → operand_read register look (drop m s) ≡ bad
+module _ (look : List ℕ → Option ℤ) (s : List ℕ) (m : ℕ) (r : RustOption (ℕ × ℕ)) (e : register_read (drop m s) ≡ reg_seen s r) where
+  pub operand-bad : r ≡ None → operand_read register look (drop m s) ≡ bad
   unfolding operand_read
   operand-bad q = ap (onto (λ v u. got v (skip u))) (e ∙ ap (reg_seen s) q)
 
-  pub operand-reg : (x u n : ℕ) → r ≡ Reg.Of x u → Passed is_space s u n → operand_read register look (drop m s) ≡ got (pos x) (drop n s)
+  pub operand-reg : (x u n : ℕ) → r ≡ Some (x, u) → Passed is_space s u n → operand_read register look (drop m s) ≡ got (pos x) (drop n s)
   unfolding operand_read
   operand-reg x u n q p = ap (onto (λ v u. got v (skip u))) (e ∙ ap (reg_seen s) q) ∙ ap (got (pos x)) (sym p.rest)
 
