@@ -1,4 +1,5 @@
 -- One byte on: what the loops over a text keep. Assumes nothing.
+use Rattle.std.proofs.lemmas.Bool.{and_parts}
 use mathlib.Core.Path.{◌≡◌, refl, sym, ap, ◌∙◌}
 use mathlib.Core.Bool.{Bool, true, false, cond, not, ◌&&◌}
 use mathlib.Core.List.{List, [], ◌∷◌}
@@ -13,14 +14,14 @@ use Rattle.std.proofs.lemmas.List.{take_rest}
 use Rattle.labels.specs.Bytes.{is_part, every, head_of, eq_bytes, key_from, key_of}
 use Rattle.labels.specs.Reading.{run_of, past, name_at, Passed}
 use Rattle.labels.specs.Table.{name_from}
-use Rattle.labels.proofs.Spans.{both_true, head-drop, tail-drop, inside, past_stop, past-on, run_past, run-stop, run_on}
+use Rattle.labels.proofs.Spans.{head-drop, tail-drop, inside, past_stop, past-on, run_past, run-stop, run_on}
 
 pub head-end : (s : List ℕ) (n : ℕ) → length s ≤ n → 0 ≡ head_of (drop n s)
 head-end s n h = sym (head-drop s n ∙ get_or-eq_default s 0 h)
 
 -- a byte of a class that has no 0 lies within the text
 pub class-inside : (p : ℕ → Bool) (s : List ℕ) (n : ℕ) → p 0 ≡ false → p (head_of (drop n s)) ≡ true → n < length s
-class-inside p s n z h = inside s n (λ e. let q : true ≡ false = sym h ∙ ap p e ∙ z in let k : ◌≡◌ {A = ℕ} 0 1 = cc in omega arith)
+class-inside p s n z h = inside s n (λ e. let q : true ≡ false = sym h ∙ ap p e ∙ z in cc)
 
 pub record Going (p : ℕ → Bool) (s : List ℕ) (at n : ℕ) : Type 0 where
   pub from : past p (drop at s) ≡ past p (drop n s)
@@ -116,14 +117,14 @@ begins [] (b ∷ t) h = go (is_part b)
     go true = refl
     go false = refl
 begins (c ∷ name) [] h = refl
-begins (c ∷ name) (b ∷ t) h = let k = both_true (is_part c) (every is_part name) h in go (is_part b) (eqb b c) refl refl k.0 (begins name t k.1)
+begins (c ∷ name) (b ∷ t) h = let k = and_parts (is_part c) (every is_part name) h in go (is_part b) (eqb b c) refl refl k.0 (begins name t k.1)
   where
     go : (p q : Bool) → is_part b ≡ p → eqb b c ≡ q → is_part c ≡ true
         → starts_with eqb t name && not (is_part (head_of (drop (length name) t))) ≡ eq_bytes (run_of is_part t) name
         → starts_with eqb (b ∷ t) (c ∷ name) && not (is_part (head_of (drop (length name) t))) ≡ eq_bytes (cond p (b ∷ run_of is_part t) []) (c ∷ name)
     go true true d e k i = let same : b ≡ c = eqb-true b c e in rw (eq-eqb c b (sym same), e) i
     go true false d e k i = rw (ne_eqb c b (λ z. eqb-false b c e (sym z)), e)
-    go false q d e k i = rw (ne_eqb c b (λ z. let w : false ≡ true = sym d ∙ ap is_part (sym z) ∙ k in let n : ◌≡◌ {A = ℕ} 0 1 = cc in omega arith))
+    go false q d e k i = rw (ne_eqb c b (λ z. let w : false ≡ true = sym d ∙ ap is_part (sym z) ∙ k in cc))
 
 pub same-name : (text name rest : List ℕ) (p : ℕ) → every is_part name ≡ true → rest ≡ slice_range text p (length text)
     → starts_with eqb rest name && not (is_part (head_of (drop (length name) rest))) ≡ eq_bytes (name_at text p) name

@@ -1,4 +1,4 @@
-// The table of labels, which is lent: three numbers a label, found by its name's key.
+// The table of labels: three numbers a label, found by its name's key. C lends it as numbers, so a slot is three of them and no struct.
 ghost use Rattle.std.specs.Prelude.{◌≡◌, ◌≢◌, ◌&&◌, ◌+◌, ◌<◌, eqb, length, true};
 ghost use Rattle.labels.specs.Bytes.{is_part, every, eq_bytes, key_of};
 ghost use Rattle.labels.specs.Reading.{name_at};
@@ -14,6 +14,7 @@ pub enum Slot {
     Full,
 }
 
+// What noting a name comes to. An enum of three answers: callers go on with two of them.
 #[derive(Clone, Copy)]
 pub enum Noted {
     New,

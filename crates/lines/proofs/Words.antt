@@ -1,5 +1,5 @@
 -- The operands of an instruction one by one, and its word. Assumes nothing.
-use Rattle.std.proofs.Common.{◌≡◌, ℕ, ◌<◌, ◌≤◌, Bool, true, false, cond, eqb, List, [], ◌∷◌, length, drop, ℤ, pos, sym, refl, ap, ◌∙◌, arith, w64, of_z, to_z, FitsSigned}
+use Rattle.std.proofs.Common.{◌≡◌, ℕ, ◌<◌, ◌≤◌, Bool, true, false, cond, eqb, List, [], ◌∷◌, length, drop, ℤ, pos, sym, refl, ap, ◌∙◌, w64, of_z, to_z, FitsSigned}
 use Rattle.std.proofs.lemmas.Int.{to_z-of_z}
 use mathlib.Core.Option.{Option, none, some}
 use Rattle.opcode.specs.Opcodes.{opcode_number, form_of}
@@ -78,7 +78,7 @@ module _ (op : Opcode) (a b : ℕ) where
   parts-two v i h e = go (form_of op) h
     where
       no : {A : Type 0} → false ≡ true → A
-      no h = absurd (let z : ◌≡◌ {A = ℕ} 0 1 = cc in omega arith)
+      no h = absurd (cc)
 
       go : (f : Form) → is_numbered f ≡ true → parts_by op f (pos a ∷ (pos b ∷ (v ∷ []))) ≡ parts op a b 0 i
       go R h = no h

@@ -38,7 +38,7 @@ module _ (s : List ℕ) (at v n : ℕ) (g : Counting s at v n) where
   counted h = g.value ∙ ap (decimal_from v) (run-stop is_digit (drop n s) h)
 
   moved : is_digit (head_of (drop at s)) ≡ true → is_digit (head_of (drop n s)) ≡ false → at ≡ n → ⊥
-  moved a h e = let q : true ≡ false = sym a ∙ ap (λ (k : ℕ). is_digit (head_of (drop k s))) e ∙ h in let k : ◌≡◌ {A = ℕ} 0 1 = cc in omega arith
+  moved a h e = let q : true ≡ false = sym a ∙ ap (λ (k : ℕ). is_digit (head_of (drop k s))) e ∙ h in cc
 
   module _ (a : is_digit (head_of (drop at s)) ≡ true) (h : is_digit (head_of (drop n s)) ≡ false) (negative : Bool) (r : RustOption ℤ) (e : checked (signed (sign_of negative) v) ≡ value_read r) where
     digits-are : digits_read (sign_of negative) (drop at s) ≡ given (value_read r) (drop n s)

@@ -1,5 +1,5 @@
 -- Integers that fit a signed 64-bit number. Assumes nothing.
-use Rattle.std.proofs.Common.{◌≡◌, ℕ, ◌*◌, ◌^◌, ◌<◌, ◌≤◌, Bool, true, false, cond, ℤ, pos, negsuc, neg_ℤ, ◌-ℤ◌, ◌*ℤ◌, Option as RustOption, Some, None, FitsSigned, subst, refl, ap, ◌∙◌, arith, lt-ltb, le-ltb, ltb-true, ltb-false, ltb}
+use Rattle.std.proofs.Common.{◌≡◌, ℕ, ◌*◌, ◌^◌, ◌<◌, ◌≤◌, Bool, true, false, cond, ℤ, pos, negsuc, neg_ℤ, ◌-ℤ◌, ◌*ℤ◌, Option as RustOption, Some, None, FitsSigned, subst, refl, ap, ◌∙◌, arith, lt-ltb, le-ltb, ltb-true}
 use Rattle.std.proofs.lemmas.Int.{ints, to_z-of_z}
 use mir.Val.{of_z, to_z}
 use mathlib.Core.Option.{none, some}
@@ -8,19 +8,15 @@ use Rattle.std.specs.Int.{w64}
 use Rattle.sums.specs.Sums.{fits64, checked, dif}
 use Rattle.sums.specs.Code.{value_read}
 
-by_order : (a b : ℕ) (P : Type 0) → (a < b → P) → (b ≤ a → P) → P
-by_order a b P f g = go (ltb a b) refl
-  where
-    go : (t : Bool) → ltb a b ≡ t → P
-    go true e = f (ltb-true a b e)
-    go false e = g (ltb-false a b e)
+not-below : (n m : ℕ) → (n < m → ⊥) → m ≤ n
+not-below n m h = omega arith
 
 pub fitting : (r : RustOption ℤ) (z : ℤ) → SomeIff r (FitsSigned w64 z) z → checked z ≡ value_read r
 unfolding checked
 fitting (Some x) (pos n) h = let f = h.0 in let l : n < 2 ^ 63 = omega (arith, ints) in simp (lt-ltb n (2 ^ 63) l, h.1)
 fitting (Some x) (negsuc n) h = let f = h.0 in let l : n < 2 ^ 63 = omega (arith, ints) in simp (lt-ltb n (2 ^ 63) l, h.1)
-fitting None (pos n) h = let l : 2 ^ 63 ≤ n = by_order n (2 ^ 63) (2 ^ 63 ≤ n) (λ l. absurd (h (omega (arith, ints)))) (λ l. l) in simp (le-ltb n (2 ^ 63) l)
-fitting None (negsuc n) h = let l : 2 ^ 63 ≤ n = by_order n (2 ^ 63) (2 ^ 63 ≤ n) (λ l. absurd (h (omega (arith, ints)))) (λ l. l) in simp (le-ltb n (2 ^ 63) l)
+fitting None (pos n) h = let l = not-below n (2 ^ 63) (λ l. h (omega (arith, ints))) in simp (le-ltb n (2 ^ 63) l)
+fitting None (negsuc n) h = let l = not-below n (2 ^ 63) (λ l. h (omega (arith, ints))) in simp (le-ltb n (2 ^ 63) l)
 
 pub fitting_at : (r : RustOption ℤ) (y z : ℤ) → y ≡ z → SomeIff r (FitsSigned w64 z) z → checked y ≡ value_read r
 fitting_at r y z e h = ap checked e ∙ fitting r z h
@@ -47,4 +43,4 @@ kept z x e = go z (fits64 z) refl e
     go : (z : ℤ) (t : Bool) → fits64 z ≡ t → cond t (some z) none ≡ some x → to_z w64 (of_z w64 x) ≡ x
     go (pos n) true f e = let l = ltb-true n (2 ^ 63) f in let q : pos n ≡ x = cc in subst (λ (y : ℤ). to_z w64 (of_z w64 y) ≡ y) q (to_z-of_z w64 (pos n) (omega (arith, ints)))
     go (negsuc n) true f e = let l = ltb-true n (2 ^ 63) f in let q : negsuc n ≡ x = cc in subst (λ (y : ℤ). to_z w64 (of_z w64 y) ≡ y) q (to_z-of_z w64 (negsuc n) (omega (arith, ints)))
-    go z false f e = absurd (let z : ◌≡◌ {A = ℕ} 0 1 = cc in omega arith)
+    go z false f e = absurd (cc)

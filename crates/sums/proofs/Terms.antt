@@ -47,10 +47,10 @@ module _ (s : List ℕ) (at : ℕ) where
 -- ---- labels
 pub found_none : (o : Option ℕ) (m : ℕ) → found_by o m ≡ None → o ≡ none
 found_none none m e = refl
-found_none (some j) m e = absurd (let z : ◌≡◌ {A = ℕ} 0 1 = cc in omega arith)
+found_none (some j) m e = absurd (cc)
 
 pub found_at : (o : Option ℕ) (m i n : ℕ) → found_by o m ≡ Some (i, n) → (o ≡ some i) × (n ≡ m)
-found_at none m i n e = absurd (let z : ◌≡◌ {A = ℕ} 0 1 = cc in omega arith)
+found_at none m i n e = absurd (cc)
 found_at (some j) m i n e = let p : ◌≡◌ {A = ℕ × ℕ} (j, m) (i, n) = cc in (ap (λ (q : ℕ × ℕ). some q.0) p, sym (ap (λ (q : ℕ × ℕ). q.1) p))
 
 module _ (text table : List ℕ) (base : ℕ) (t : List ℕ) where
@@ -72,7 +72,7 @@ name-past s at n h p =
     let moved : at ≡ n → ⊥ = λ e.
     let part : is_part (head_of (drop at s)) ≡ true = simp h in
     let q : true ≡ false = sym part ∙ ap (λ (k : ℕ). is_part (head_of (drop k s))) e ∙ ap (λ (t : List ℕ). is_part (head_of t)) p.rest ∙ past_head is_part (drop at s) refl in
-    let z : ◌≡◌ {A = ℕ} 0 1 = cc in omega arith in
+    cc in
     (omega arith, p.within (omega arith))
 
 -- ---- a group
@@ -115,8 +115,8 @@ module _ (T : List ℕ → Got) (f : ℕ) (v : ℤ) (s : List ℕ) (n : ℕ) whe
   more-stop h = go (eqb (head_of (drop n s)) 43) (eqb (head_of (drop n s)) 45) h
     where
       go : (x y : Bool) → cond x (Some Add) (cond y (Some Sub) None) ≡ None → cond x (goes T f add v (T (skip (tail_of (drop n s))))) (cond y (goes T f sub v (T (skip (tail_of (drop n s))))) (got v (drop n s))) ≡ got v (drop n s)
-      go true y h = absurd (let z : ◌≡◌ {A = ℕ} 0 1 = cc in omega arith)
-      go false true h = absurd (let z : ◌≡◌ {A = ℕ} 0 1 = cc in omega arith)
+      go true y h = absurd (cc)
+      go false true h = absurd (cc)
       go false false h = refl
 
   pub more-goes : (c : Op) → op_at (head_of (drop n s)) ≡ Some c → (m : ℕ) → Passed is_space s (n + 1) m → more_by T (suc f) v (drop n s) ≡ goes T f (op_of c) v (T (drop m s))
@@ -129,7 +129,7 @@ module _ (T : List ℕ → Got) (f : ℕ) (v : ℤ) (s : List ℕ) (n : ℕ) whe
       go : (x y : Bool) → cond x (Some Add) (cond y (Some Sub) None) ≡ Some c → cond x (goes T f add v (T (skip (tail_of (drop n s))))) (cond y (goes T f sub v (T (skip (tail_of (drop n s))))) (got v (drop n s))) ≡ goes T f (op_of c) v (T (drop m s))
       go true y h = let k : Add ≡ c = cc in ap (λ (t : List ℕ). goes T f add v (T t)) there ∙ ap (λ (k : Op). goes T f (op_of k) v (T (drop m s))) k
       go false true h = let k : Sub ≡ c = cc in ap (λ (t : List ℕ). goes T f sub v (T t)) there ∙ ap (λ (k : Op). goes T f (op_of k) v (T (drop m s))) k
-      go false false h = absurd (let z : ◌≡◌ {A = ℕ} 0 1 = cc in omega arith)
+      go false false h = absurd (cc)
 
 -- one turn of the loop: what is left of the text bounds the turns that are left
 module _ (T : List ℕ → Got) (s : List ℕ) (f : ℕ) (v : ℤ) (n : ℕ) (c : Op) (m : ℕ) where
