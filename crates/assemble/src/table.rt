@@ -1,5 +1,5 @@
 // The labels of a text, noted in a table.
-use labels::table::{Found, find, note};
+use labels::table::{find, note};
 use lines::{Start, start_of};
 
 // What the labels mean that are noted, counted from an instruction.
@@ -26,10 +26,10 @@ impl<'a> Labels<'a> {
     // Four bytes an instruction; no text has so many that this wraps.
     pub fn value_of(self, name: &[u8]) -> Option<i64> {
         match find(self.text, self.table, name, 0) {
-            Found::At(index, _) => Some(
+            Some((index, _)) => Some(
                 index.wrapping_sub(self.base).wrapping_mul(4).cast_signed(),
             ),
-            Found::Nothing => None,
+            None => None,
         }
     }
 }

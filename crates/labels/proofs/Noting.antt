@@ -1,5 +1,6 @@
 -- A table after a label is noted: that label is found, all others as before, and no slot is lost. Assumes nothing.
 use Rattle.std.specs.Prelude.{Some}
+use Rattle.std.proofs.lemmas.Bool.{and_parts}
 use mathlib.Core.Path.{◌≡◌, refl, sym, ap, ◌∙◌, subst}
 use mathlib.Core.Bool.{Bool, true, false, cond, ◌&&◌}
 use mathlib.Core.List.{List, [], ◌∷◌}
@@ -12,16 +13,15 @@ use Rattle.labels.specs.Reading.{name_at}
 use Rattle.labels.specs.Table.{slots_of, place_at, key_at, index_at, home_of, next_of, holds_name, search_from, search_in, index_by, index_in}
 use Rattle.labels.specs.declared.table.Slot.{Slot}
 use Rattle.labels.specs.declared.table.Slot.TheVariants.{Held, Free, Full}
-use Rattle.labels.proofs.Spans.{both_true}
 use Rattle.labels.proofs.Searches.{search-held, held_below}
 
 pub bytes-equal : (s t : List ℕ) → eq_bytes s t ≡ true → s ≡ t
 unfolding eq_bytes
 bytes-equal [] [] h = refl
-bytes-equal [] (b ∷ t) h = absurd (let z : ◌≡◌ {A = ℕ} 0 1 = cc in omega arith)
-bytes-equal (a ∷ s) [] h = absurd (let z : ◌≡◌ {A = ℕ} 0 1 = cc in omega arith)
+bytes-equal [] (b ∷ t) h = absurd (cc)
+bytes-equal (a ∷ s) [] h = absurd (cc)
 bytes-equal (a ∷ s) (b ∷ t) h =
-    let k = both_true (eqb a b) (eq_bytes s t) h in
+    let k = and_parts (eqb a b) (eq_bytes s t) h in
     ap (◌∷ s) (eqb-true a b k.0) ∙ ap (b ∷◌) (bytes-equal s t k.1)
 
 -- names with other keys differ
@@ -163,7 +163,7 @@ module _ (text old new : List ℕ) (j place index : ℕ) (c : Changed old new j)
       now = held-holds text new m h e
 
       go : (t : Bool) → eqb h j ≡ t → ⊥
-      go true q = let f : true ≡ false = sym now.1 ∙ ap (holds_name text new m) (eqb-true h j q) ∙ holds-new m ∙ t in let z : ◌≡◌ {A = ℕ} 0 1 = cc in omega arith
+      go true q = let f : true ≡ false = sym now.1 ∙ ap (holds_name text new m) (eqb-true h j q) ∙ holds-new m ∙ t in cc
       go false q = n (findable m h (subst (λ (n : ℕ). h < n) c.slots (held_below text new m h e)) (holds-old m h (eqb-false h j q) now))
 
   pub new-index : (m : List ℕ) → index_in text new m ≡ cond (eq_bytes (name_at text place) m) (Some index) (index_in text old m)
@@ -175,9 +175,9 @@ module _ (text old new : List ℕ) (j place index : ℕ) (c : Changed old new j)
       go false (Held h) q et er eq =
           let was = held-holds text old m h er in
           ap (λ (x : Slot). index_by x new) (sym eq ∙ still-held text old new j c m h er) ∙ ap Some (c.index h (taken-other text old new j c h was.0))
-      go false (Free f) (Held h) et er eq = absurd (none-new m h et (λ e. let x = sym er ∙ e in let z : ◌≡◌ {A = ℕ} 0 1 = cc in omega arith) eq)
+      go false (Free f) (Held h) et er eq = absurd (none-new m h et (λ e. let x = sym er ∙ e in cc) eq)
       go false (Free f) (Free g) et er eq = refl
       go false (Free f) Full et er eq = refl
-      go false Full (Held h) et er eq = absurd (none-new m h et (λ e. let x = sym er ∙ e in let z : ◌≡◌ {A = ℕ} 0 1 = cc in omega arith) eq)
+      go false Full (Held h) et er eq = absurd (none-new m h et (λ e. let x = sym er ∙ e in cc) eq)
       go false Full (Free g) et er eq = refl
       go false Full Full et er eq = refl

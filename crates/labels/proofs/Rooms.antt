@@ -92,8 +92,8 @@ module _ (text table name : List ℕ) (k : ℕ) (b : k < slots_of table) where
     where
       go : (c d s : Bool) → eqb (key_at table x) 0 ≡ c → eqb u t ≡ s → cond c (Free x) (cond d (Held x) (search_from text table name left (next_of (slots_of table) x))) ≡ Full
           → (search_from text table name left (next_of (slots_of table) x) ≡ Full → t + 1 ≤ u → ⊥) → ⊥
-      go true d s ec es f rest = let w : ◌≡◌ {A = ℕ} 0 1 = cc in omega arith
-      go false true s ec es f rest = let w : ◌≡◌ {A = ℕ} 0 1 = cc in omega arith
+      go true d s ec es f rest = cc
+      go false true s ec es f rest = cc
       go false false true ec es f rest =
           let r = eqb-true u t es in
           eqb-false (key_at table x) 0 ec (ap (key_at table) (at_one (slots_of table) k b t x j l i a (subst (λ (n : ℕ). At (slots_of table) k b n j) r q)) ∙ z)

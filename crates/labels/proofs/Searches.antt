@@ -9,9 +9,8 @@ use native.Mathlib.Numerals.{sub-one}
 use borrow.Author.Tests.{eq-eqb, ne_eqb, eqb-false, ltb-false}
 use lib.Dec.{eqb, ltb}
 use Rattle.labels.specs.Bytes.{key_of}
-use Rattle.labels.specs.Table.{slots_of, key_at, spread_of, home_of, next_of, holds_name, search_from, search_in}
-use Rattle.labels.specs.declared.table.Slot.{Slot}
-use Rattle.labels.specs.declared.table.Slot.TheVariants.{Held, Free, Full}
+use Rattle.labels.specs.Table.{slots_of, key_at, spread_of, home_of, next_of, holds_name, search_from, search_in, SlotBelow}
+use Rattle.labels.specs.declared.table.Slot.TheVariants.{Held, Free}
 
 module _ (text table name : List ℕ) (k : ℕ) where
   search-turn : (left : ℕ) → (left ≡ 0 → ⊥) → search_from text table name left k
@@ -50,13 +49,8 @@ next-below slots k h = go (eqb (k + 1) slots) refl
     go true e = omega arith
     go false e = let n = eqb-false (k + 1) slots e in omega arith
 
-abbrev slot_below : ℕ → Slot → Type 0
-slot_below n (Held k) = k < n
-slot_below n (Free k) = k < n
-slot_below n Full = Unit {0}
-
 module _ (text table name : List ℕ) where
-  from-below : (left k : ℕ) → ((left ≡ 0 → ⊥) → k < slots_of table) → slot_below (slots_of table) (search_from text table name left k)
+  from-below : (left k : ℕ) → ((left ≡ 0 → ⊥) → k < slots_of table) → SlotBelow (slots_of table) (search_from text table name left k)
   unfolding search_from
   from-below zero k h = tt
   from-below (suc left) k h = go (eqb (key_at table k) 0) (holds_name text table name k) (from-below left (next_of (slots_of table) k) (λ _. next-below (slots_of table) k below))
@@ -64,18 +58,18 @@ module _ (text table name : List ℕ) where
       below : k < slots_of table
       below = h (λ z. omega arith)
 
-      go : (a b : Bool) → slot_below (slots_of table) (search_from text table name left (next_of (slots_of table) k))
-          → slot_below (slots_of table) (cond a (Free k) (cond b (Held k) (search_from text table name left (next_of (slots_of table) k))))
+      go : (a b : Bool) → SlotBelow (slots_of table) (search_from text table name left (next_of (slots_of table) k))
+          → SlotBelow (slots_of table) (cond a (Free k) (cond b (Held k) (search_from text table name left (next_of (slots_of table) k))))
       go true b r = below
       go false true r = below
       go false false r = r
 
-  search-below : slot_below (slots_of table) (search_in text table name)
+  search-below : SlotBelow (slots_of table) (search_in text table name)
   unfolding search_in
   search-below = from-below (slots_of table) (home_of (key_of name) (slots_of table)) (λ n. home_below (key_of name) (slots_of table) (omega (arith, n)))
 
   pub held_below : (k : ℕ) → search_in text table name ≡ Held k → k < slots_of table
-  held_below k e = subst (slot_below (slots_of table)) e search-below
+  held_below k e = subst (SlotBelow (slots_of table)) e search-below
 
   pub free-below : (k : ℕ) → search_in text table name ≡ Free k → k < slots_of table
-  free-below k e = subst (slot_below (slots_of table)) e search-below
+  free-below k e = subst (SlotBelow (slots_of table)) e search-below

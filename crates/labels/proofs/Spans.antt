@@ -1,6 +1,7 @@
 -- Runs of bytes of a class, and a text from a place on. Assumes nothing.
+use Rattle.std.proofs.lemmas.Bool.{and_parts}
 use mathlib.Core.Path.{◌≡◌, refl, sym, ap, ◌∙◌}
-use mathlib.Core.Bool.{Bool, true, false, cond, ◌&&◌}
+use mathlib.Core.Bool.{Bool, true, false, cond}
 use mathlib.Core.List.{List, [], ◌∷◌, ◌++◌}
 use Prim.Native.Nat.{ℕ, zero, suc, ◌+◌, ◌<◌}
 use native.Mathlib.Numerals.{add-one}
@@ -34,11 +35,6 @@ inside [] zero h = absurd (h refl)
 inside [] (suc n) h = absurd (h refl)
 inside (b ∷ s) zero h = omega arith
 inside (b ∷ s) (suc n) h = let i : n < length s = inside s n h in omega arith
-
-pub both_true : (a b : Bool) → a && b ≡ true → (a ≡ true) × (b ≡ true)
-both_true true true h = (refl, refl)
-both_true true false h = (refl, h)
-both_true false b h = (h, absurd (let z : ◌≡◌ {A = ℕ} 0 1 = cc in omega arith))
 
 module _ (p : ℕ → Bool) where
   pub run_past : (t : List ℕ) → run_of p t ++ past p t ≡ t
@@ -76,7 +72,7 @@ module _ (p : ℕ → Bool) where
 
   pub run_on : (t : List ℕ) → p 0 ≡ false → p (head_of t) ≡ true → run_of p t ≡ head_of t ∷ run_of p (tail_of t)
   unfolding run_of head_of tail_of
-  run_on [] z h = absurd (let q : false ≡ true = sym z ∙ h in let n : ◌≡◌ {A = ℕ} 0 1 = cc in omega arith)
+  run_on [] z h = absurd (let q : false ≡ true = sym z ∙ h in cc)
   run_on (b ∷ t) z h = simp h
 
   pub past_head : (t : List ℕ) → p 0 ≡ false → p (head_of (past p t)) ≡ false
@@ -91,12 +87,12 @@ module _ (p : ℕ → Bool) where
   pub past-append : (a t : List ℕ) → every p a ≡ true → past p (a ++ t) ≡ past p t
   unfolding past every
   past-append [] t h = refl
-  past-append (b ∷ a) t h = let k = both_true (p b) (every p a) h in rw (k.0, past) (past-append a t k.1)
+  past-append (b ∷ a) t h = let k = and_parts (p b) (every p a) h in rw (k.0, past) (past-append a t k.1)
 
   pub run-append : (a t : List ℕ) → every p a ≡ true → p (head_of t) ≡ false → run_of p (a ++ t) ≡ a
   unfolding run_of every
   run-append [] t h e = run-stop t e
-  run-append (b ∷ a) t h e = let k = both_true (p b) (every p a) h in rw (k.0, run_of) (ap (b ∷◌) (run-append a t k.1 e))
+  run-append (b ∷ a) t h e = let k = and_parts (p b) (every p a) h in rw (k.0, run_of) (ap (b ∷◌) (run-append a t k.1 e))
 
 all-spaces : (n : ℕ) → every is_space (spaces n) ≡ true
 unfolding every
@@ -110,6 +106,6 @@ skip-spaces n t = past-append is_space (spaces n) t (all-spaces n)
 pub are-spaces : (t : List ℕ) → every is_space t ≡ true → t ≡ spaces (length t)
 unfolding every
 are-spaces [] h = refl
-are-spaces (b ∷ t) h = let k = both_true _ _ h in
+are-spaces (b ∷ t) h = let k = and_parts _ _ h in
     let e : b ≡ 32 = eqb-true b 32 k.0 in
     ap (◌∷ t) e ∙ ap (32 ∷◌) (are-spaces t k.1)

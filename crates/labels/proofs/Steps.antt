@@ -1,15 +1,18 @@
 -- One byte on: what the loops over a text keep. Assumes nothing.
+use Rattle.std.proofs.lemmas.Bool.{and_parts}
 use mathlib.Core.Path.{◌≡◌, refl, sym, ap, ◌∙◌}
 use mathlib.Core.Bool.{Bool, true, false, cond, not, ◌&&◌}
 use mathlib.Core.List.{List, [], ◌∷◌}
-use Prim.Native.Nat.{ℕ, suc, ◌+◌, ◌-◌, ◌*◌, ◌%◌, ◌^◌, ◌≤◌, ◌<◌}
+use Prim.Native.Nat.{ℕ, ◌+◌, ◌-◌, ◌*◌, ◌%◌, ◌^◌, ◌≤◌, ◌<◌}
 use native.Mathlib.Omega.{arith}
-use lib.Dec.{leb}
+use lib.Dec.{eqb, leb}
 use lib.Seq.{drop-drop}
-use lib.ListN.{length, drop, length-drop, length-append, get_or-eq_default}
-use borrow.Author.Tests.{eq-eqb, ne_eqb, leb-true, leb-false}
-use Rattle.labels.specs.Bytes.{is_part, head_of, eq_bytes, key_from, key_of}
-use Rattle.labels.specs.Reading.{tail_of, run_of, past, name_at, Passed}
+use lib.ListN.{length, take, drop, length-drop, length-append, get_or-eq_default, drop_of_length-le}
+use borrow.Author.Tests.{eq-eqb, ne_eqb, eqb-true, eqb-false, leb-true, leb-false}
+use Rattle.std.specs.List.{starts_with, slice_range}
+use Rattle.std.proofs.lemmas.List.{take_rest}
+use Rattle.labels.specs.Bytes.{is_part, every, head_of, eq_bytes, key_from, key_of}
+use Rattle.labels.specs.Reading.{run_of, past, name_at, Passed}
 use Rattle.labels.specs.Table.{name_from}
 use Rattle.labels.proofs.Spans.{head-drop, tail-drop, inside, past_stop, past-on, run_past, run-stop, run_on}
 
@@ -18,7 +21,7 @@ head-end s n h = sym (head-drop s n ∙ get_or-eq_default s 0 h)
 
 -- a byte of a class that has no 0 lies within the text
 pub class-inside : (p : ℕ → Bool) (s : List ℕ) (n : ℕ) → p 0 ≡ false → p (head_of (drop n s)) ≡ true → n < length s
-class-inside p s n z h = inside s n (λ e. let q : true ≡ false = sym h ∙ ap p e ∙ z in let k : ◌≡◌ {A = ℕ} 0 1 = cc in omega arith)
+class-inside p s n z h = inside s n (λ e. let q : true ≡ false = sym h ∙ ap p e ∙ z in cc)
 
 pub record Going (p : ℕ → Bool) (s : List ℕ) (at n : ℕ) : Type 0 where
   pub from : past p (drop at s) ≡ past p (drop n s)
@@ -103,73 +106,60 @@ module _ (s : List ℕ) (at : ℕ) where
         let i = ap is_part (sym e) ∙ h in
         cc (g.key ∙ key-end s v n i, passed_over is_part s at n (stops is_part s at n g.to i))
 
--- ---- names that are compared; how long the second one is is known
-run-some : (p : ℕ → Bool) (t : List ℕ) → (length (run_of p t) ≡ 0 → ⊥) → p (head_of t) ≡ true
-run-some p t n = go (p (head_of t)) refl
+-- ---- names that are compared
+-- a text begins with a name and goes on with no part of one
+pub begins : (name t : List ℕ) → every is_part name ≡ true → starts_with eqb t name && not (is_part (head_of (drop (length name) t))) ≡ eq_bytes (run_of is_part t) name
+unfolding eq_bytes run_of every head_of
+begins [] [] h = refl
+begins [] (b ∷ t) h = go (is_part b)
   where
-    go : (c : Bool) → p (head_of t) ≡ c → c ≡ true
-    go true e = refl
-    go false e = absurd (n (ap length (run-stop p t e)))
+    go : (c : Bool) → not c ≡ eq_bytes (cond c (b ∷ run_of is_part t) []) []
+    go true = refl
+    go false = refl
+begins (c ∷ name) [] h = refl
+begins (c ∷ name) (b ∷ t) h = let k = and_parts (is_part c) (every is_part name) h in go (is_part b) (eqb b c) refl refl k.0 (begins name t k.1)
+  where
+    go : (p q : Bool) → is_part b ≡ p → eqb b c ≡ q → is_part c ≡ true
+        → starts_with eqb t name && not (is_part (head_of (drop (length name) t))) ≡ eq_bytes (run_of is_part t) name
+        → starts_with eqb (b ∷ t) (c ∷ name) && not (is_part (head_of (drop (length name) t))) ≡ eq_bytes (cond p (b ∷ run_of is_part t) []) (c ∷ name)
+    go true true d e k i = let same : b ≡ c = eqb-true b c e in rw (eq-eqb c b (sym same), e) i
+    go true false d e k i = rw (ne_eqb c b (λ z. eqb-false b c e (sym z)), e)
+    go false q d e k i = rw (ne_eqb c b (λ z. let w : false ≡ true = sym d ∙ ap is_part (sym z) ∙ k in cc))
 
-run_none : (p : ℕ → Bool) (t : List ℕ) → p 0 ≡ false → length (run_of p t) ≡ 0 → p (head_of t) ≡ false
-run_none p t z n = go (p (head_of t)) refl
+pub same-name : (text name rest : List ℕ) (p : ℕ) → every is_part name ≡ true → rest ≡ slice_range text p (length text)
+    → starts_with eqb rest name && not (is_part (head_of (drop (length name) rest))) ≡ eq_bytes (name_at text p) name
+same-name text name rest p h e = begins name rest h ∙ ap (λ (t : List ℕ). eq_bytes (run_of is_part t) name) (e ∙ take_rest text p)
+
+pub no-name : (text name : List ℕ) (p : ℕ) → length text < p → eqb (length name) 0 ≡ eq_bytes (name_at text p) name
+unfolding eq_bytes run_of
+no-name text name p h = let l : length text ≤ p = omega arith in rw drop_of_length-le (empty name)
   where
-    go : (c : Bool) → p (head_of t) ≡ c → c ≡ false
-    go true e = absurd (let l = sym n ∙ ap length (run_on p t z e) in omega arith)
+    empty : (name : List ℕ) → eqb (length name) 0 ≡ eq_bytes [] name
+    empty [] = refl
+    empty (b ∷ t) = ne_eqb (length (b ∷ t)) 0 (λ z. omega arith)
+
+-- ---- a name as a part of the text it stands in
+take-run : (p : ℕ → Bool) (t : List ℕ) → take (length (run_of p t)) t ≡ run_of p t
+unfolding run_of
+take-run p [] = refl
+take-run p (b ∷ t) = go (p b) (take-run p t)
+  where
+    go : (c : Bool) → take (length (run_of p t)) t ≡ run_of p t → take (length (cond c (b ∷ run_of p t) [])) (b ∷ t) ≡ cond c (b ∷ run_of p t) []
+    go true e = ap (b ∷◌) e
     go false e = refl
 
-names-end : (s t : List ℕ) → is_part (head_of t) ≡ false → eq_bytes (run_of is_part s) (run_of is_part t) ≡ not (is_part (head_of s))
-unfolding eq_bytes
-names-end s t h = ap (eq_bytes (run_of is_part s)) (run-stop is_part t h) ∙ go (is_part (head_of s)) refl
+pub name-slice : (s : List ℕ) (at after : ℕ) → after ≡ at + length (name_at s at) → slice_range s at after ≡ name_at s at
+name-slice s at after e = let n : after - at ≡ length (name_at s at) = omega arith in ap (λ (k : ℕ). take k (drop at s)) n ∙ take-run is_part (drop at s)
+
+-- a name whose key is not 0 lies within the text
+pub keyed-within : (s : List ℕ) (at : ℕ) → (key_of (name_at s at) ≡ 0 → ⊥) → at + length (name_at s at) ≤ length s
+unfolding key_from run_of
+keyed-within s at n = go (leb at (length s)) refl
   where
-    go : (c : Bool) → is_part (head_of s) ≡ c → eq_bytes (run_of is_part s) [] ≡ not c
-    go true e = ap (λ (x : List ℕ). eq_bytes x []) (run_on is_part s refl e)
-    go false e = ap (λ (x : List ℕ). eq_bytes x []) (run-stop is_part s e)
+    go : (c : Bool) → leb at (length s) ≡ c → at + length (name_at s at) ≤ length s
+    go true e = let l = leb-true at (length s) e in omega (arith, in_all is_part s at 0)
+    go false e = let l = leb-false at (length s) e in absurd (n (ap (λ (t : List ℕ). key_of (run_of is_part t)) (drop_of_length-le s (omega arith))))
 
-module _ (s t : List ℕ) (h : is_part (head_of t) ≡ true) where
-  names-differ : (head_of s ≡ head_of t → ⊥) → eq_bytes (run_of is_part s) (run_of is_part t) ≡ false
-  unfolding eq_bytes
-  names-differ n = ap (eq_bytes (run_of is_part s)) (run_on is_part t refl h) ∙ go (is_part (head_of s)) refl
-    where
-      go : (c : Bool) → is_part (head_of s) ≡ c → eq_bytes (run_of is_part s) (head_of t ∷ run_of is_part (tail_of t)) ≡ false
-      go true e = ap (λ (x : List ℕ). eq_bytes x (head_of t ∷ run_of is_part (tail_of t))) (run_on is_part s refl e) ∙ ap (◌&& eq_bytes (run_of is_part (tail_of s)) (run_of is_part (tail_of t))) (ne_eqb (head_of s) (head_of t) n)
-      go false e = ap (λ (x : List ℕ). eq_bytes x (head_of t ∷ run_of is_part (tail_of t))) (run-stop is_part s e)
-
-  names-on : head_of s ≡ head_of t → eq_bytes (run_of is_part s) (run_of is_part t) ≡ eq_bytes (run_of is_part (tail_of s)) (run_of is_part (tail_of t))
-  unfolding eq_bytes
-  names-on e =
-      ap (λ (x : List ℕ). eq_bytes x (run_of is_part t)) (run_on is_part s refl (ap is_part e ∙ h))
-      ∙ ap (eq_bytes (head_of s ∷ run_of is_part (tail_of s))) (run_on is_part t refl h)
-      ∙ ap (◌&& eq_bytes (run_of is_part (tail_of s)) (run_of is_part (tail_of t))) (eq-eqb (head_of s) (head_of t) e)
-
-pub record Compared (text : List ℕ) (p : ℕ) (s : List ℕ) (at after i j : ℕ) : Type 0 where
-  pub rest : eq_bytes (name_at text p) (name_at s at) ≡ eq_bytes (name_at text i) (name_at s j)
-  pub to : after ≡ j + length (name_at s j)
-
-module _ (text : List ℕ) (p : ℕ) (s : List ℕ) (at after i j : ℕ) (g : Compared text p s at after i j) (a : ℕ) (e : a ≡ head_of (drop i text)) where
-  pub compared-all : j ≡ after → not (is_part a) ≡ eq_bytes (name_at text p) (name_at s at)
-  compared-all h = ap (λ (b : ℕ). not (is_part b)) e ∙ sym (names-end (drop i text) (drop j s) (run_none is_part (drop j s) refl (omega (arith, g.to)))) ∙ sym g.rest
-
-  module _ (h : j ≡ after → ⊥) where
-    second-on : is_part (head_of (drop j s)) ≡ true
-    second-on = run-some is_part (drop j s) (λ z. h (omega (arith, g.to)))
-
-    pub second-inside : j < length s
-    second-inside = class-inside is_part s j refl second-on
-
-    pub compared-not : (b : ℕ) → b ≡ head_of (drop j s) → (a ≡ b → ⊥) → false ≡ eq_bytes (name_at text p) (name_at s at)
-    compared-not b f n = sym (g.rest ∙ names-differ (drop i text) (drop j s) second-on (λ z. n (e ∙ z ∙ sym f)))
-
-    module _ (b : ℕ) (f : b ≡ head_of (drop j s)) (q : a ≡ b) where
-      alike : head_of (drop i text) ≡ head_of (drop j s)
-      alike = sym e ∙ q ∙ f
-
-      pub first-inside : i < length text
-      first-inside = class-inside is_part text i refl (ap is_part alike ∙ second-on)
-
-      pub compared-on : Compared text p s at after (i + 1) (j + 1)
-      compared-on =
-          record {
-            rest = g.rest ∙ names-on (drop i text) (drop j s) second-on alike ∙ cc (tail-drop text i, tail-drop s j);
-            to = let l = ap length (run_on is_part (drop j s) refl second-on) ∙ ap (λ (t : List ℕ). suc (length (run_of is_part t))) (tail-drop s j) in omega (arith, l, g.to);
-          }
+-- at the end there is no further byte
+pub stops_at_end : (p : ℕ → Bool) (s : List ℕ) (at n : ℕ) → p 0 ≡ false → Going p s at n → length s ≤ n → at + length (run_of p (drop at s)) ≡ n
+stops_at_end p s at n z g h = sym (passed_over p s at n (stops p s at n g (ap p (sym (head-end s n h)) ∙ z)))

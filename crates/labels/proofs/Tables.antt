@@ -1,5 +1,6 @@
 -- A table that gives the labels noted in it. Assumes nothing.
 use Rattle.std.specs.Prelude.{None, Option, Some}
+use Rattle.std.proofs.lemmas.Bool.{and_parts}
 use mathlib.Core.Path.{◌≡◌, refl, sym, ap, ◌∙◌}
 use mathlib.Core.Bool.{Bool, true, false, cond}
 use mathlib.Core.List.{List, [], ◌∷◌}
@@ -14,7 +15,7 @@ use Rattle.labels.specs.Reading.{tail_of, run_of, name_at}
 use Rattle.labels.specs.Table.{slots_of, place_at, key_at, index_at, search_in, index_by, index_in}
 use Rattle.labels.specs.declared.table.Slot.{Slot}
 use Rattle.labels.specs.declared.table.Slot.TheVariants.{Held, Free, Full}
-use Rattle.labels.proofs.Spans.{both_true, run_on, every-run}
+use Rattle.labels.proofs.Spans.{run_on, every-run}
 use Rattle.labels.proofs.Classes.{part-bounds, or-true}
 use Rattle.labels.proofs.Searches.{free-below}
 use Rattle.labels.proofs.Noting.{Changed, held-holds, free-empty, Findable, new-findable, new-index}
@@ -24,14 +25,14 @@ use Rattle.labels.proofs.Rooms.{taken, taken-all, taken_none, taken_more, full-a
 key-grows : (v : ℕ) (t : List ℕ) → zero < v → every is_part t ≡ true → zero < key_from v t
 unfolding key_from every
 key-grows v [] h e = h
-key-grows v (b ∷ t) h e = let k = both_true (is_part b) (every is_part t) e in key-grows (v % 2 ^ 56 * 256 + b) t (let p = part-bounds b k.0 in omega arith) k.1
+key-grows v (b ∷ t) h e = let k = and_parts (is_part b) (every is_part t) e in key-grows (v % 2 ^ 56 * 256 + b) t (let p = part-bounds b k.0 in omega arith) k.1
 
 pub named-key : (s : List ℕ) (at : ℕ) → is_letter (head_of (drop at s)) ≡ true → key_of (name_at s at) ≡ 0 → ⊥
 unfolding key_from every
 named-key s at h z =
     let p = or-true (is_letter (head_of (drop at s))) _ h in
     let r = run_on is_part (drop at s) refl p in
-    let k = both_true (is_part (head_of (drop at s))) (every is_part (run_of is_part (tail_of (drop at s)))) (ap (every is_part) (sym r) ∙ every-run is_part (drop at s)) in
+    let k = and_parts (is_part (head_of (drop at s))) (every is_part (run_of is_part (tail_of (drop at s)))) (ap (every is_part) (sym r) ∙ every-run is_part (drop at s)) in
     let g = key-grows (0 % 2 ^ 56 * 256 + head_of (drop at s)) (run_of is_part (tail_of (drop at s))) (let b = part-bounds (head_of (drop at s)) p in omega arith) k.1 in
     let e = sym (ap key_of r) ∙ z in
     omega arith

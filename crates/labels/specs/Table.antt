@@ -1,15 +1,13 @@
 -- Inner: the table of labels, as the functions have it that note and find them. A label has three numbers, a slot: the place of its
 -- name in the text, the name's key, the number of instructions before it. A slot with the key 0 is free. A name is sought from its
 -- home on, upwards and round, up to the first free slot.
-use Rattle.std.specs.Prelude.{None, Option, Some, ℕ, zero, suc, ◌+◌, ◌*◌, ◌/◌, ◌%◌, ◌^◌, Bool, cond, ◌&&◌, List, [], ◌∷◌, eqb, ltb, length, get_or}
+use Rattle.std.specs.Prelude.{Option, ℕ, zero, suc, ◌+◌, ◌*◌, ◌/◌, ◌%◌, ◌^◌, ◌<◌, Bool, cond, ◌&&◌, List, [], ◌∷◌, eqb, ltb, length, get_or, Option as RustOption, Some, None}
 use Rattle.std.proofs.lemmas.List.Edits.{sets}
 use Rattle.labels.specs.Bytes.{eq_bytes, key_of}
 use Rattle.labels.specs.Reading.{name_at}
 use Rattle.labels.specs.declared.table.Name.{Name}
 use Rattle.labels.specs.declared.table.Slot.{Slot}
 use Rattle.labels.specs.declared.table.Slot.TheVariants.{Held, Free, Full}
-use Rattle.labels.specs.declared.table.Found.{Found}
-use Rattle.labels.specs.declared.table.Found.TheVariants.{At, Nothing}
 use Rattle.labels.specs.declared.table.Noted.{Noted}
 use Rattle.labels.specs.declared.table.Noted.TheVariants as N
 
@@ -51,6 +49,12 @@ search_from text table name (suc left) k =
 unfoldable pub search_in : List ℕ → List ℕ → List ℕ → Slot
 search_in text table name = search_from text table name (slots_of table) (home_of (key_of name) (slots_of table))
 
+-- a slot that is one of so many
+abbrev pub SlotBelow : ℕ → Slot → Type 0
+SlotBelow slots (Held k) = k < slots
+SlotBelow slots (Free k) = k < slots
+SlotBelow slots Full = Unit {0}
+
 -- ---- finding: the number of instructions before a label, and the place after its name
 abbrev pub index_by : Slot → List ℕ → Option ℕ
 index_by (Held k) table = Some (index_at table k)
@@ -60,9 +64,9 @@ index_by Full table = None
 unfoldable pub index_in : List ℕ → List ℕ → List ℕ → Option ℕ
 index_in text table name = index_by (search_in text table name) table
 
-abbrev pub found_by : Option ℕ → ℕ → Found
-found_by (Some i) after = At i after
-found_by None after = Nothing
+abbrev pub found_by : Option ℕ → ℕ → RustOption (ℕ × ℕ)
+found_by (Some i) after = Some (i, after)
+found_by None after = None
 
 -- ---- noting the name at a place, unless it is noted
 abbrev pub noted_by : Slot → Noted

@@ -1,12 +1,12 @@
-// The table of labels, which is lent: three numbers a label, found by its name's key.
-ghost use Rattle.std.specs.Prelude.{◌≡◌, ◌&&◌, ◌+◌, ◌<◌, eqb, length};
-ghost use Rattle.labels.specs.Bytes.{eq_bytes, key_of};
+// The table of labels: three numbers a label, found by its name's key. C lends it as numbers, so a slot is three of them and no struct.
+ghost use Rattle.std.specs.Prelude.{◌≡◌, ◌≢◌, ◌&&◌, ◌+◌, ◌<◌, eqb, length, true};
+ghost use Rattle.labels.specs.Bytes.{is_part, every, eq_bytes, key_of};
 ghost use Rattle.labels.specs.Reading.{name_at};
-ghost use Rattle.labels.specs.Table.{name_from, home_of, next_of, search_in, index_in, found_by, noted_by, with_label};
+ghost use Rattle.labels.specs.Table.{name_from, slots_of, home_of, next_of, search_in, SlotBelow, index_in, found_by, noted_by, with_label};
 
 use crate::text::{byte, part};
 
-// Where a name is in the table, or would be.
+// Where a name is in the table, or would be. An enum of three answers: noting tells a name that is held from a table that is full.
 #[derive(Clone, Copy)]
 pub enum Slot {
     Held(usize),
@@ -14,12 +14,7 @@ pub enum Slot {
     Full,
 }
 
-#[derive(Clone, Copy)]
-pub enum Found {
-    At(u64, usize),
-    Nothing,
-}
-
+// What noting a name comes to. An enum of three answers: callers go on with two of them.
 #[derive(Clone, Copy)]
 pub enum Noted {
     New,
@@ -34,63 +29,41 @@ pub struct Name {
     pub after: usize,
 }
 
-fn place(x: u64) -> usize
-    ensures { result ≡ x }
-{
-    x as usize
-}
-
-fn wide(c: u8) -> u64
-    ensures { result ≡ c }
-{
-    c as u64
-}
-
 // The name at a place. Its key is its last eight bytes as a number.
 pub fn name_at(s: &[u8], at: usize) -> Name
     ensures { result ≡ name_from s.now at }
 {
-    let mut v: u64 = 0;
-    let mut n = at;
-    loop {
-        let c = byte(s, n);
+    let mut key: u64 = 0;
+    for after in at..s.len() {
+        let c = s[after];
         if !part(c) {
-            return Name { key: v, after: n };
+            return Name { key, after };
         }
-        v = (v % 0x100_0000_0000_0000) * 256 + wide(c);
-        n += 1;
+        key = (key % 0x100_0000_0000_0000) * 256 + u64::from(c);
+    }
+    Name {
+        key,
+        after: at.max(s.len()),
     }
 }
 
-// Whether the name at a place of the text is the one from `at` to `after`.
-fn same(text: &[u8], p: usize, s: &[u8], at: usize, after: usize) -> bool
-    requires { after ≡ at + length (name_at s.now at) }
-    ensures { result ≡ eq_bytes (name_at text.now p) (name_at s.now at) }
+// Whether the name at a place of the text is this one.
+fn same(text: &[u8], p: usize, name: &[u8]) -> bool
+    requires { every is_part name.now ≡ true }
+    ensures { result ≡ eq_bytes (name_at text.now p) name.now }
 {
-    let mut i = p;
-    let mut j = at;
-    loop {
-        let a = byte(text, i);
-        if j == after {
-            return !part(a);
-        }
-        if a != s[j] {
-            return false;
-        }
-        i += 1;
-        j += 1;
+    match text.get(p..) {
+        Some(rest) => rest.starts_with(name) && !part(byte(rest, name.len())),
+        None => name.is_empty(),
     }
 }
 
 // Whether the label at a place of the table, whose key is q, has this name, which stands at a place.
 fn is_label(text: &[u8], p: u64, q: u64, s: &[u8], at: usize, name: Name) -> bool
-    requires { name ≡ name_from s.now at }
+    requires { (q ≢ 0) × (name ≡ name_from s.now at) }
     ensures { result ≡ eqb q (key_of (name_at s.now at)) && eq_bytes (name_at text.now p) (name_at s.now at) }
 {
-    if q != name.key {
-        return false;
-    }
-    same(text, place(p), s, at, name.after)
+    q == name.key && same(text, p as usize, &s[at..name.after])
 }
 
 fn home(w: u64, slots: usize) -> usize
@@ -98,7 +71,7 @@ fn home(w: u64, slots: usize) -> usize
     ensures { (result ≡ home_of w slots) × (result < slots) }
 {
     let sum = w % 0x1_0000_0000 * 1_640_531_527 + w / 0x1_0000_0000 * 1_540_483_477;
-    let spread = place(sum % 0x1_0000_0000);
+    let spread = (sum % 0x1_0000_0000) as usize;
     if slots < 0x1_0000_0000 {
         return spread * slots / 0x1_0000_0000;
     }
@@ -109,27 +82,21 @@ fn next(k: usize, slots: usize) -> usize
     requires { k < slots }
     ensures { (result ≡ next_of slots k) × (result < slots) }
 {
-    if k + 1 == slots {
-        return 0;
-    }
-    k + 1
+    if k + 1 == slots { 0 } else { k + 1 }
 }
 
 // The slot of this name, which stands at a place.
 fn search(text: &[u8], table: &[u64], s: &[u8], at: usize, name: Name) -> Slot
     requires { name ≡ name_from s.now at }
-    ensures { result ≡ search_in text.now table.now (name_at s.now at) }
+    ensures value { result ≡ search_in text.now table.now (name_at s.now at) }
+    ensures below { SlotBelow (slots_of table.now) result }
 {
     let slots = table.len() / 3;
     if slots == 0 {
         return Slot::Full;
     }
     let mut k = home(name.key, slots);
-    let mut left = slots;
-    loop {
-        if left == 0 {
-            return Slot::Full;
-        }
+    for _passed in 0..slots {
         let i = 3 * k;
         let q = table[i + 1];
         if q == 0 {
@@ -139,19 +106,18 @@ fn search(text: &[u8], table: &[u64], s: &[u8], at: usize, name: Name) -> Slot
             return Slot::Held(k);
         }
         k = next(k, slots);
-        left -= 1;
     }
+    Slot::Full
 }
 
 // The number of instructions before the label that has the name at a place, and the place after the name.
-pub fn find(text: &[u8], table: &[u64], s: &[u8], at: usize) -> Found
+pub fn find(text: &[u8], table: &[u64], s: &[u8], at: usize) -> Option<(u64, usize)>
     ensures { result ≡ found_by (index_in text.now table.now (name_at s.now at)) (at + length (name_at s.now at)) }
 {
     let name = name_at(s, at);
     match search(text, table, s, at, name) {
-        Slot::Held(k) => Found::At(table[3 * k + 2], name.after),
-        Slot::Free(_) => Found::Nothing,
-        Slot::Full => Found::Nothing,
+        Slot::Held(k) => Some((table[3 * k + 2], name.after)),
+        Slot::Free(_) | Slot::Full => None,
     }
 }
 

@@ -7,40 +7,35 @@ ghost use Rattle.labels.specs.Reading.{run_of};
 pub fn byte(s: &[u8], at: usize) -> u8
     ensures { result ≡ head_of (drop at s.now) }
 {
-    if at < s.len() {
-        return s[at];
-    }
-    0
+    s.get(at).copied().unwrap_or(0)
 }
 
 pub fn digit(c: u8) -> bool
     ensures { result ≡ is_digit c }
 {
-    (48 <= c) & (c <= 57)
+    c.is_ascii_digit()
 }
 
 pub fn letter(c: u8) -> bool
     ensures { result ≡ is_letter c }
 {
-    ((65 <= c) & (c <= 90)) | ((97 <= c) & (c <= 122))
+    c.is_ascii_alphabetic()
 }
 
 pub(crate) fn part(c: u8) -> bool
     ensures { result ≡ is_part c }
 {
-    letter(c) | digit(c)
+    letter(c) || digit(c)
 }
 
 // The place after the spaces at a place.
 pub fn skip(s: &[u8], at: usize) -> usize
     ensures { result ≡ at + length (run_of is_space (drop at s.now)) }
 {
-    let mut n = at;
-    loop {
-        let c = byte(s, n);
-        if c != 32 {
+    for n in at..s.len() {
+        if s[n] != b' ' {
             return n;
         }
-        n += 1;
     }
+    at.max(s.len())
 }

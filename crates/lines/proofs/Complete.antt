@@ -1,4 +1,7 @@
 -- Whatever spells a line is read as what it says. Assumes nothing.
+use Rattle.std.proofs.lemmas.Bool.{and_parts, or_parts}
+use Rattle.std.proofs.lemmas.List.{append-nil}
+use Rattle.std.proofs.Math.Bool.{and-false}
 use Rattle.std.proofs.Common.{None, Option, Some, ◌≡◌, ℕ, zero, suc, ◌+◌, ◌-◌, ◌<◌, ◌≤◌, Bool, true, false, cond, ◌&&◌, ◌||◌, eqb, ltb, leb, List, [], ◌∷◌, ◌++◌, ℤ, pos, refl, ap, ◌∙◌, subst, append_assoc, arith, ltb-false, ltb-true, ne_eqb, le-leb, leb-false}
 use lib.ListN.{replicate-append-replicate}
 use borrow.Author.Tests.{lt-leb}
@@ -14,9 +17,9 @@ use Rattle.labels.specs.Bytes.{is_space, is_digit, is_letter, is_part, every, is
 use Rattle.sums.specs.Sums.{Term, number as numeral, label, group, unsigned, plus, minus, term_text, rest_text}
 use Rattle.labels.specs.Reading.{tail_of, run_of, past, skip}
 use Rattle.sums.specs.Reader.{Got, got, bad, given, onto}
-use Rattle.labels.proofs.Spans.{both_true, past_stop, past-append, run-append, skip-spaces}
+use Rattle.labels.proofs.Spans.{past_stop, past-append, run-append, skip-spaces}
 use Rattle.sums.proofs.Complete.{Ends, complete, space-apart}
-use Rattle.labels.proofs.Classes.{or-true, or-false, digit_low, digit-high, letter-low}
+use Rattle.labels.proofs.Classes.{or-true, digit_low, digit-high, letter-low}
 use Rattle.lines.specs.Lines.{Kind, kinds_of, Operand, reg, sum, Operands, without, last, more, Line, blank, defines, instruction, operand_text, operands_text, arguments_text, line_text, operand_value, pushed, operands_values, word_for, empty, named, wrong, saying_of, line_saying}
 use Rattle.lines.specs.Reader.{register_read, operand_read, nothing, with, operands_read, instruction_read, word_read, line_read}
 
@@ -35,14 +38,14 @@ not_first b s c = simp (ne_eqb b 32 s, ne_eqb b 58 c)
 
 term-first : (e : Term) (t : List ℕ) → first (head_of (term_text e ++ t)) ≡ false
 unfolding term_text head_of is_number is_name every first
-term-first (numeral unsigned [] h) t = absurd (let z : ◌≡◌ {A = ℕ} 0 1 = cc in omega arith)
+term-first (numeral unsigned [] h) t = absurd (cc)
 term-first (numeral unsigned (b ∷ ds) h) t =
-    let d = (both_true (is_digit b) (every is_digit ds) h).0 in
+    let d = (and_parts (is_digit b) (every is_digit ds) h).0 in
     let l = digit_low b d in let u = digit-high b d in not_first b (λ z. omega arith) (λ z. omega arith)
 term-first (numeral plus ds h) t = refl
 term-first (numeral minus ds h) t = refl
-term-first (label [] h) t = absurd (let z : ◌≡◌ {A = ℕ} 0 1 = cc in omega arith)
-term-first (label (b ∷ name) h) t = let l = letter-low b (both_true (is_letter b) (every is_part name) h).0 in not_first b (λ z. omega arith) (λ z. omega arith)
+term-first (label [] h) t = absurd (cc)
+term-first (label (b ∷ name) h) t = let l = letter-low b (and_parts (is_letter b) (every is_part name) h).0 in not_first b (λ z. omega arith) (λ z. omega arith)
 term-first (group g e r k) t = refl
 
 operand-first : {k : Kind} (o : Operand k) (t : List ℕ) → first (head_of (operand_text o ++ t)) ≡ false
@@ -63,23 +66,19 @@ unfolding first
 first-colon b h = go (eqb b 32) h
   where
     go : (x : Bool) → x || eqb b 58 ≡ false → eqb b 58 ≡ false
-    go true h = absurd (let z : ◌≡◌ {A = ℕ} 0 1 = cc in omega arith)
+    go true h = absurd (cc)
     go false h = h
 
 skip-operand : {k : Kind} (o : Operand k) (t : List ℕ) → skip (operand_text o ++ t) ≡ operand_text o ++ t
 skip-operand o t = past_stop is_space (operand_text o ++ t) (first-space (head_of (operand_text o ++ t)) (operand-first o t))
 
 -- ---- an operand
-and_no : (x : Bool) → x && false ≡ false
-and_no true = refl
-and_no false = refl
-
 teen-no : (a b : ℕ) → is_digit b ≡ false → eqb a 49 && (leb 48 b && leb b 53) ≡ false
 teen-no a b h = go (leb 48 b) h
   where
     go : (x : Bool) → x && leb b 57 ≡ false → eqb a 49 && (x && leb b 53) ≡ false
-    go true h = let u = leb-false b 57 h in ap (λ (y : Bool). eqb a 49 && y) (lt-leb b 53 (omega arith)) ∙ and_no (eqb a 49)
-    go false h = and_no (eqb a 49)
+    go true h = let u = leb-false b 57 h in ap (λ (y : Bool). eqb a 49 && y) (lt-leb b 53 (omega arith)) ∙ and-false (eqb a 49)
+    go false h = and-false (eqb a 49)
 
 register-one : (r : ℕ) (t : List ℕ) → r < 10 → is_digit (head_of t) ≡ false → register_read (82 ∷ ((48 + r) ∷ t)) ≡ got (pos r) t
 unfolding register_read head_of tail_of
@@ -104,7 +103,7 @@ some-given (Some v) t go rest h = h v
 
 operand-law : {k : Kind} (o : Operand k) (look : List ℕ → Option ℤ) (t : List ℕ) → Ends t → operand_read k look (operand_text o ++ t) ≡ given (operand_value o look) (skip t)
 unfolding operand_read
-operand-law (reg r h) look t e = ap (onto (λ v u. got v (skip u))) (register-law r t h (or-false (is_letter (head_of t)) (is_digit (head_of t)) e.apart).1)
+operand-law (reg r h) look t e = ap (onto (λ v u. got v (skip u))) (register-law r t h (or_parts (is_letter (head_of t)) (is_digit (head_of t)) e.apart).1)
 operand-law (sum e) look t ends = complete e look 16 t ends
 
 -- ---- operands, up to the end of the line
@@ -113,16 +112,12 @@ ends_by k t a s p m =
     let e : skip (spaces k ++ t) ≡ t = skip-spaces k t ∙ past_stop is_space t s in
     record { apart = space-apart k t a; no_plus = ap (λ (u : List ℕ). eqb (head_of u) 43) e ∙ p; no_minus = ap (λ (u : List ℕ). eqb (head_of u) 45) e ∙ m }
 
-pub append-none : (t : List ℕ) → t ++ [] ≡ t
-append-none [] = refl
-append-none (b ∷ t) = ap (b ∷◌) (append-none t)
-
 two-gaps : (g h : ℕ) → spaces g ++ spaces h ≡ spaces (g + h)
 two-gaps g h = replicate-append-replicate g h 32
 
 ends_last : (k : ℕ) → Ends (spaces k)
 unfolding head_of
-ends_last k = subst Ends (append-none (spaces k)) (ends_by k [] refl refl refl refl)
+ends_last k = subst Ends (append-nil (spaces k)) (ends_by k [] refl refl refl refl)
 
 ends-comma : (k : ℕ) (t : List ℕ) → Ends (spaces k ++ (44 ∷ t))
 unfolding head_of
@@ -174,7 +169,7 @@ module _ (look : List ℕ → Option ℤ) where
 
 arguments-apart : {ks : List Kind} (os : Operands ks) (n : ℕ) → is_part (head_of (arguments_text os ++ spaces n)) ≡ false
 unfolding head_of
-arguments-apart without n = subst (λ (u : List ℕ). is_part (head_of u) ≡ false) (append-none (spaces n)) (space-apart n [] refl)
+arguments-apart without n = subst (λ (u : List ℕ). is_part (head_of u) ≡ false) (append-nil (spaces n)) (space-apart n [] refl)
 arguments-apart (last g o h) n = refl
 arguments-apart (more g o h os) n = refl
 
@@ -197,9 +192,9 @@ module _ (look : Form → List ℕ → Option ℤ) where
   -- a line that begins with a name
   starts : (g : ℕ) (name t : List ℕ) → is_name name ≡ true → line_read look (spaces g ++ (name ++ t)) ≡ word_read look (name ++ t)
   unfolding line_read is_name
-  starts g [] t h = absurd (let z : ◌≡◌ {A = ℕ} 0 1 = cc in omega arith)
+  starts g [] t h = absurd (cc)
   starts g (b ∷ name) t h =
-      let l = (both_true (is_letter b) (every is_part name) h).0 in
+      let l = (and_parts (is_letter b) (every is_part name) h).0 in
       let low = letter-low b l in
       let to : skip (spaces g ++ ((b ∷ name) ++ t)) ≡ b ∷ (name ++ t) = skip-spaces g ((b ∷ name) ++ t) ∙ past_stop is_space (b ∷ (name ++ t)) (unfold head_of in (ne_eqb b 32 (λ z. omega arith))) in
       let lt : is_letter (head_of (b ∷ (name ++ t))) ≡ true = unfold head_of in l in
@@ -209,7 +204,7 @@ module _ (look : Form → List ℕ → Option ℤ) where
   pub parts-of : (name : List ℕ) → is_name name ≡ true → every is_part name ≡ true
   unfolding is_name every
   parts-of [] h = refl
-  parts-of (b ∷ name) h = let k = both_true (is_letter b) (every is_part name) h in rw (or-true (is_letter b) (is_digit b) k.0) k.1
+  parts-of (b ∷ name) h = let k = and_parts (is_letter b) (every is_part name) h in rw (or-true (is_letter b) (is_digit b) k.0) k.1
 
   module _ (name t : List ℕ) (h : is_name name ≡ true) (a : is_part (head_of t) ≡ false) where
     runs : run_of is_part (name ++ t) ≡ name

@@ -1,8 +1,9 @@
 -- How a line ends that is blank or defines a label. Assumes nothing.
+use Rattle.std.proofs.lemmas.Bool.{and_parts}
 use Rattle.std.proofs.Common.{◌≡◌, ℕ, zero, suc, ◌+◌, ◌<◌, ◌≤◌, Bool, true, false, cond, ◌&&◌, eqb, List, [], ◌∷◌, length, get_or, drop, sym, refl, ap, ◌∙◌, zero-add, arith, eqb-true}
 use Rattle.labels.specs.Bytes.{is_space, is_letter, every, head_of, key_of}
 use Rattle.labels.specs.Reading.{tail_of, run_of, past, skip, name_at}
-use Rattle.labels.proofs.Spans.{both_true, inside}
+use Rattle.labels.proofs.Spans.{inside}
 use Rattle.labels.proofs.Classes.{or-true}
 use Rattle.labels.proofs.Steps.{passed}
 use Rattle.lines.specs.Reader.{nothing}
@@ -16,12 +17,12 @@ none_left p (b ∷ t) h = go (p b) refl (none_left p t) h
   where
     go : (c : Bool) → p b ≡ c → (nothing (past p t) ≡ true → every p t ≡ true) → nothing (cond c (past p t) (b ∷ t)) ≡ true → p b && every p t ≡ true
     go true e r h = simp (e, r h)
-    go false e r h = absurd (let z : ◌≡◌ {A = ℕ} 0 1 = cc in omega arith)
+    go false e r h = absurd (cc)
 
 spaces-end : (t : List ℕ) → every is_space t ≡ true → every is_end t ≡ true
 unfolding every
 spaces-end [] h = refl
-spaces-end (b ∷ t) h = let k = both_true (is_space b) (every is_space t) h in simp (or-true (is_space b) (eqb b 58) k.0, spaces-end t k.1)
+spaces-end (b ∷ t) h = let k = and_parts (is_space b) (every is_space t) h in simp (or-true (is_space b) (eqb b 58) k.0, spaces-end t k.1)
 
 colon-ends : (t : List ℕ) → head_of t ≡ 58 → nothing (skip (tail_of t)) ≡ true → every is_end t ≡ true
 unfolding every head_of tail_of
@@ -73,8 +74,8 @@ module _ (s : List ℕ) where
 last-ends : (p : ℕ → Bool) (s : List ℕ) (n k : ℕ) → length s ≡ suc k → n ≤ k → every p (drop n s) ≡ true → p (get_or s k 0) ≡ true
 unfolding every
 last-ends p [] n k q l h = absurd (omega arith)
-last-ends p (b ∷ t) zero zero q l h = (both_true (p b) (every p t) h).0
-last-ends p (b ∷ t) zero (suc k) q l h = last-ends p t zero k (omega arith) (omega arith) (both_true (p b) (every p t) h).1
+last-ends p (b ∷ t) zero zero q l h = (and_parts (p b) (every p t) h).0
+last-ends p (b ∷ t) zero (suc k) q l h = last-ends p t zero k (omega arith) (omega arith) (and_parts (p b) (every p t) h).1
 last-ends p (b ∷ t) (suc n) zero q l h = absurd (omega arith)
 last-ends p (b ∷ t) (suc n) (suc k) q l h = last-ends p t n k (omega arith) (omega arith) h
 
@@ -83,7 +84,7 @@ pub plain-start : {A : Type 0} (f : Start → A) (v : A) (s : List ℕ) (k : ℕ
 plain-start f v s k q h w o = go (start_of s) (ended s)
   where
     no : {B : Type 0} → is_end (get_or s k 0) ≡ true → B
-    no i = let j : true ≡ false = sym i ∙ h in absurd (let z : ◌≡◌ {A = ℕ} 0 1 = cc in omega arith)
+    no i = let j : true ≡ false = sym i ∙ h in absurd (cc)
 
     go : (x : Start) → Ended s x → f x ≡ v
     go Start.Blank i = no (last-ends is_end s 0 k q (omega arith) i)

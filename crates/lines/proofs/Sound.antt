@@ -1,4 +1,6 @@
 -- Whatever is read of a line is what a line with that text says. Assumes nothing.
+use Rattle.std.proofs.lemmas.Bool.{and_parts}
+use Rattle.std.proofs.lemmas.List.{append-nil}
 use Rattle.std.proofs.Common.{Option, None, Some, ◌≡◌, ℕ, zero, suc, ◌+◌, ◌-◌, ◌≤◌, Bool, true, false, cond, ◌&&◌, eqb, ltb, leb, List, [], ◌∷◌, ◌++◌, length, ℤ, pos, sym, refl, ap, ◌∙◌, subst, append_assoc, arith, le-ltb, lt-ltb, eqb-true, leb-true}
 use Rattle.opcode.specs.Opcodes.{all, opcode_in, form_of}
 use Rattle.opcode.specs.declared.Opcode.{Opcode}
@@ -12,12 +14,12 @@ use Rattle.names.specs.Names.{register_text, name_of, name_key}
 use Rattle.labels.specs.Bytes.{is_space, is_digit, is_letter, is_part, spaces, head_of, key_of}
 use Rattle.labels.specs.Reading.{tail_of, run_of, past, skip}
 use Rattle.sums.specs.Reader.{Got, got, bad}
-use Rattle.labels.proofs.Spans.{both_true, run_past, every-run, past_head}
+use Rattle.labels.proofs.Spans.{run_past, every-run, past_head}
 use Rattle.labels.proofs.Classes.{digit_low, digit-high}
 use Rattle.sums.proofs.Sound.{sound, bad-got, cons-is, skipped, is-name, onto-got}
 use Rattle.lines.specs.Lines.{Kind, register, immediate, kinds_of, Operand, reg, sum, Operands, without, last, more, Line, blank, defines, instruction, operand_text, operands_text, arguments_text, line_text, operand_value, pushed, operands_values, word_for, Saying, empty, named, wrong, saying_of, line_saying}
 use Rattle.lines.specs.Reader.{is_teen, register_read, operand_read, nothing, with, operands_read, instruction_read, word_read, line_read}
-use Rattle.lines.proofs.Complete.{append-none, name-is, parts-of}
+use Rattle.lines.proofs.Complete.{name-is, parts-of}
 use Rattle.lines.proofs.Names.{turned, one_key}
 
 -- ---- a register
@@ -28,9 +30,9 @@ two-sound : (t : List ℕ) (v : ℤ) (u : List ℕ) → head_of t ≡ 82 → is_
 unfolding RegisterSound
 two-sound t v u e k h =
     let b : ℕ = head_of (tail_of (tail_of t)) in
-    let teen = both_true (eqb (head_of (tail_of t)) 49) (leb 48 b && leb b 53) k in
-    let l = leb-true 48 b (both_true (leb 48 b) (leb b 53) teen.1).0 in
-    let m = leb-true b 53 (both_true (leb 48 b) (leb b 53) teen.1).1 in
+    let teen = and_parts (eqb (head_of (tail_of t)) 49) (leb 48 b && leb b 53) k in
+    let l = leb-true 48 b (and_parts (leb 48 b) (leb b 53) teen.1).0 in
+    let m = leb-true b 53 (and_parts (leb 48 b) (leb b 53) teen.1).1 in
     let r : ℕ = b - 38 in
     let p : tail_of (tail_of (tail_of t)) ≡ u = cc in
     let q : b ≡ 38 + r = omega arith in (
@@ -74,11 +76,11 @@ register-sound t v u = go (eqb (head_of t) 82) refl
     go false e h = bad-got h
 
 none-some : {A : Type 0} {vs : List ℤ} → None ≡ Some vs → A
-none-some h = absurd (let z : ◌≡◌ {A = ℕ} 0 1 = cc in omega arith)
+none-some h = absurd (cc)
 
 is-nothing : (t : List ℕ) → nothing t ≡ true → t ≡ []
 is-nothing [] h = refl
-is-nothing (b ∷ t) h = absurd (let z : ◌≡◌ {A = ℕ} 0 1 = cc in omega arith)
+is-nothing (b ∷ t) h = absurd (cc)
 
 -- ---- operands
 module _ (look : List ℕ → Option ℤ) where
@@ -141,7 +143,7 @@ module _ (look : List ℕ → Option ℤ) where
   unfolding operands_read OperandsSound OperandSound operands_text operands_values
   operands-sound [] t vs h =
       let k = cond-some (nothing (skip t)) (Some []) vs h in
-      (without, (length (run_of is_space t), skipped t ∙ ap (spaces (length (run_of is_space t)) ++◌) (is-nothing (skip t) k.0) ∙ append-none (spaces (length (run_of is_space t))), k.1))
+      (without, (length (run_of is_space t), skipped t ∙ ap (spaces (length (run_of is_space t)) ++◌) (is-nothing (skip t) k.0) ∙ append-nil (spaces (length (run_of is_space t))), k.1))
   operands-sound (k ∷ []) t vs h =
       let x = with-some (operand_read k look (skip t)) (λ v u. cond (nothing u) (Some (v ∷ [])) None) vs h in
       let c = cond-some (nothing x.1.0) (Some (x.0 ∷ [])) vs x.1.2 in
@@ -161,7 +163,7 @@ module _ (look : List ℕ → Option ℤ) where
 
   spaced : {j : Kind} {ks : List Kind} (os : Operands (register ∷ (j ∷ ks))) (n : ℕ) (t : List ℕ) (vs : List ℤ) → t ≡ operands_text os ++ spaces n → operands_values os look ≡ Some vs → is_part (head_of t) ≡ false → ArgumentsSound (register ∷ (j ∷ ks)) t vs
   unfolding ArgumentsSound operands_text operands_values head_of
-  spaced (more zero (reg r p) h os) n t vs e v a = absurd (let q : true ≡ false = sym (ap (λ (u : List ℕ). is_part (head_of u)) e) ∙ a in let z : ◌≡◌ {A = ℕ} 0 1 = cc in omega arith)
+  spaced (more zero (reg r p) h os) n t vs e v a = absurd (let q : true ≡ false = sym (ap (λ (u : List ℕ). is_part (head_of u)) e) ∙ a in cc)
   spaced (more (suc g) o h os) n t vs e v a = (more g o h os, (n, e, v))
 
   arguments_sound : (f : Form) (t : List ℕ) (vs : List ℤ) → is_part (head_of t) ≡ false → operands_read (kinds_of f) look t ≡ Some vs → ArgumentsSound (kinds_of f) t vs
@@ -218,7 +220,7 @@ module _ (look : Form → List ℕ → Option ℤ) where
           let i : ℕ = length (run_of is_space u) in
           let j : ℕ = length (run_of is_space (tail_of (skip u))) in (
             defines g (run_of is_part t) (is-name (look R) 0 t l) i j,
-            ap (spaces g ++◌) (sym (run_past is_part t) ∙ ap (run_of is_part t ++◌) (skipped u ∙ ap (spaces i ++◌) (cons-is (skip u) 58 p (λ z. omega arith) ∙ ap (58 ∷◌) (skipped (tail_of (skip u)) ∙ ap (spaces j ++◌) (is-nothing (skip (tail_of (skip u))) e) ∙ append-none (spaces j))))),
+            ap (spaces g ++◌) (sym (run_past is_part t) ∙ ap (run_of is_part t ++◌) (skipped u ∙ ap (spaces i ++◌) (cons-is (skip u) 58 p (λ z. omega arith) ∙ ap (58 ∷◌) (skipped (tail_of (skip u)) ∙ ap (spaces j ++◌) (is-nothing (skip (tail_of (skip u))) e) ∙ append-nil (spaces j))))),
             h,
           )
 
@@ -240,5 +242,5 @@ module _ (look : Form → List ℕ → Option ℤ) where
       by false e h = refused x h n
 
       go : (c : Bool) → nothing (skip t) ≡ c → cond c empty (cond (is_letter (head_of (skip t))) (word_read look (skip t)) wrong) ≡ x → LineSound t x
-      go true e h = (blank g, skipped t ∙ ap (spaces g ++◌) (is-nothing (skip t) e) ∙ append-none (spaces g), h)
+      go true e h = (blank g, skipped t ∙ ap (spaces g ++◌) (is-nothing (skip t) e) ∙ append-nil (spaces g), h)
       go false e h = by (is_letter (head_of (skip t))) refl h

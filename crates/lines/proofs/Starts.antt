@@ -1,6 +1,6 @@
 -- How a line begins, and what it then says. Assumes nothing.
 use Rattle.opcode.specs.declared.Opcode.{Opcode}
-use Rattle.std.proofs.Common.{Option, None, Some, ◌≡◌, ℕ, ◌+◌, ◌^◌, ◌<◌, ◌≤◌, Bool, true, false, cond, eqb, ltb, List, [], ◌∷◌, length, drop, ℤ, sym, refl, ap, ◌∙◌, subst, zero-add, eq-eqb, ne_eqb, eqb-true}
+use Rattle.std.proofs.Common.{Option, ◌≡◌, ℕ, ◌+◌, ◌<◌, ◌≤◌, Bool, true, false, cond, eqb, List, [], ◌∷◌, length, drop, ℤ, sym, refl, ap, ◌∙◌, subst, Option as RustOption, Some, None, zero-add, eq-eqb, ne_eqb, eqb-true}
 use Rattle.opcode.specs.Opcodes.{form_of, opcode_in}
 use Rattle.opcode.specs.declared.Form.{Form}
 use Rattle.names.specs.Names.{name_key}
@@ -8,10 +8,9 @@ use Rattle.labels.specs.Bytes.{is_space, is_letter, is_part, head_of, key_of}
 use Rattle.labels.specs.Reading.{tail_of, run_of, past, skip, name_at, Passed}
 use Rattle.labels.proofs.Spans.{tail-drop, past_stop, past_head}
 use Rattle.labels.proofs.Steps.{passed}
-use Rattle.lines.specs.Lines.{Kind, kinds_of, word_for, Saying, empty, named, word, wrong, saying_of}
+use Rattle.lines.specs.Lines.{Kind, kinds_of, word_for, Saying, empty, named, wrong, saying_of}
 use Rattle.lines.specs.Reader.{nothing, operands_read, instruction_read, word_read, line_read}
-use Rattle.lines.specs.Code.{word_or_wrong, word_or_bad, said_of, named_at, start_at, start_of}
-use Rattle.lines.specs.declared.Said.{Said}
+use Rattle.lines.specs.Code.{word_or_wrong, said_by, said_of, named_at, start_at, start_of}
 use Rattle.lines.specs.declared.Start.{Start}
 use Rattle.lines.proofs.Steps.{nothing-end, nothing-not}
 
@@ -141,9 +140,6 @@ module _ (s : List ℕ) (at : ℕ) (p : at ≡ 0 + length (run_of is_space (drop
     start-label c m e b = ap (λ (t : Bool). cond t (Start.Label at) Start.Other) (sym (ap nothing (sym (passed is_space s (n + 1) m e).rest) ∙ nothing-end s m b)) ∙ colon c
 
 -- ---- an instruction's answer names no label
-pub word-said : (s : List ℕ) (w : ℕ) → word_or_wrong w ≡ said_of s (word_or_bad w)
-word-said s w = go (ltb w (2 ^ 32))
-  where
-    go : (c : Bool) → cond c (word w) wrong ≡ said_of s (cond c (Said.Word w) Said.Bad)
-    go true = refl
-    go false = refl
+pub word-said : (s : List ℕ) (w : RustOption ℕ) → word_or_wrong w ≡ said_of s (said_by w)
+word-said s (Some w) = refl
+word-said s None = refl

@@ -1,13 +1,13 @@
 -- What the reader's definitions say of a line from a place on, case by case. Assumes nothing.
-use Rattle.std.proofs.Common.{Option, ◌≡◌, ℕ, zero, suc, ◌+◌, ◌-◌, ◌<◌, ◌≤◌, Bool, true, false, cond, ◌&&◌, eqb, leb, List, [], ◌∷◌, length, drop, ℤ, pos, sym, refl, ap, ◌∙◌, arith, drop_of_length-le, eq-eqb, ne_eqb, eqb-true, leb-true}
+use Rattle.std.proofs.lemmas.Bool.{and_parts}
+use Rattle.std.proofs.Common.{Option, ◌≡◌, ℕ, zero, suc, ◌+◌, ◌-◌, ◌<◌, ◌≤◌, Bool, true, false, cond, ◌&&◌, eqb, leb, List, [], ◌∷◌, length, drop, ℤ, pos, sym, refl, ap, ◌∙◌, arith, Option as RustOption, Some, None, drop_of_length-le, eq-eqb, ne_eqb, eqb-true, leb-true}
 use Rattle.labels.specs.Bytes.{is_space, is_digit, head_of}
 use Rattle.labels.specs.Reading.{tail_of, skip, Passed}
 use Rattle.sums.specs.Reader.{Got, got, bad, onto, sum_read}
-use Rattle.labels.proofs.Spans.{both_true, tail-drop}
+use Rattle.labels.proofs.Spans.{tail-drop}
 use Rattle.lines.specs.Lines.{Kind, register, immediate}
 use Rattle.lines.specs.Reader.{register_read, operand_read, nothing}
 use Rattle.lines.specs.Code.{is_two, comma_read, last_read, reg_seen}
-use Rattle.lines.specs.declared.operands.Reg.{Reg}
 
 -- ---- a register
 module _ (s : List ℕ) (at : ℕ) where
@@ -33,7 +33,7 @@ module _ (s : List ℕ) (at : ℕ) where
       no-two a b d = go (eqb a 49) refl
         where
           go : (c : Bool) → eqb a 49 ≡ c → c && (leb 48 b && leb b 53) ≡ false
-          go true e = absurd (let q : false ≡ true = sym d ∙ ap is_digit (eqb-true a 49 e) in let z : ◌≡◌ {A = ℕ} 0 1 = cc in omega arith)
+          go true e = absurd (let q : false ≡ true = sym d ∙ ap is_digit (eqb-true a 49 e) in cc)
           go false e = refl
 
   pub reg-two : head_of (drop at s) ≡ 82 → is_two (head_of (drop (at + 1) s)) (head_of (drop (at + 2) s)) ≡ true → register_read (drop at s) ≡ got (pos (head_of (drop (at + 2) s) - 38)) (drop (at + 3) s)
@@ -44,8 +44,8 @@ module _ (s : List ℕ) (at : ℕ) where
 
 pub two-bounds : (a b : ℕ) → is_two a b ≡ true → (48 ≤ b) × (b ≤ 53)
 two-bounds a b h =
-    let k = (both_true (eqb a 49) (leb 48 b && leb b 53) h).1 in
-    (leb-true 48 b (both_true (leb 48 b) (leb b 53) k).0, leb-true b 53 (both_true (leb 48 b) (leb b 53) k).1)
+    let k = (and_parts (eqb a 49) (leb 48 b && leb b 53) h).1 in
+    (leb-true 48 b (and_parts (leb 48 b) (leb b 53) k).0, leb-true b 53 (and_parts (leb 48 b) (leb b 53) k).1)
 
 -- ---- what follows an operand
 pub nothing-end : (s : List ℕ) (n : ℕ) → length s ≤ n → nothing (drop n s) ≡ true
@@ -85,12 +85,12 @@ module _ (k : Kind) (look : List ℕ → Option ℤ) (s : List ℕ) (at m : ℕ)
   last-yes v n e h = ap (onto (λ v u. cond (nothing u) (got v u) bad)) (reads _ e) ∙ ap (λ (c : Bool). cond c (got v (drop n s)) bad) (nothing-end s n h)
 
 -- a register and the spaces after it
-module _ (look : List ℕ → Option ℤ) (s : List ℕ) (m : ℕ) (r : Reg) (e : register_read (drop m s) ≡ reg_seen s r) where
-  pub operand-bad : r ≡ Reg.Bad → operand_read register look (drop m s) ≡ bad
+module _ (look : List ℕ → Option ℤ) (s : List ℕ) (m : ℕ) (r : RustOption (ℕ × ℕ)) (e : register_read (drop m s) ≡ reg_seen s r) where
+  pub operand-bad : r ≡ None → operand_read register look (drop m s) ≡ bad
   unfolding operand_read
   operand-bad q = ap (onto (λ v u. got v (skip u))) (e ∙ ap (reg_seen s) q)
 
-  pub operand-reg : (x u n : ℕ) → r ≡ Reg.Of x u → Passed is_space s u n → operand_read register look (drop m s) ≡ got (pos x) (drop n s)
+  pub operand-reg : (x u n : ℕ) → r ≡ Some (x, u) → Passed is_space s u n → operand_read register look (drop m s) ≡ got (pos x) (drop n s)
   unfolding operand_read
   operand-reg x u n q p = ap (onto (λ v u. got v (skip u))) (e ∙ ap (reg_seen s) q) ∙ ap (got (pos x)) (sym p.rest)
 

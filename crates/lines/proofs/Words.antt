@@ -1,5 +1,6 @@
 -- The operands of an instruction one by one, and its word. Assumes nothing.
-use Rattle.std.proofs.Common.{None, Option, Some, ◌≡◌, ℕ, ◌+◌, ◌%◌, ◌^◌, ◌<◌, ◌≤◌, Bool, true, false, cond, eqb, ltb, List, [], ◌∷◌, length, drop, ℤ, pos, sym, refl, ap, ◌∙◌, arith, w64, of_z, ltb-false, ltb-true}
+use Rattle.std.proofs.Common.{None, Option, Some, ◌≡◌, ℕ, ◌<◌, ◌≤◌, Bool, true, false, cond, eqb, List, [], ◌∷◌, length, drop, ℤ, pos, sym, refl, ap, ◌∙◌, w64, of_z, to_z, FitsSigned}
+use Rattle.std.proofs.lemmas.Int.{to_z-of_z}
 use Rattle.opcode.specs.Opcodes.{opcode_number, form_of}
 use Rattle.opcode.specs.declared.Opcode.{Opcode}
 use Rattle.opcode.specs.declared.Form.{Form}
@@ -9,9 +10,7 @@ use Rattle.words.specs.Words.{encoded_in}
 use Rattle.labels.specs.Bytes.{head_of, is_space}
 use Rattle.labels.specs.Reading.{tail_of, skip, Passed}
 use Rattle.sums.specs.Reader.{Got, got, bad, onto}
-use Rattle.sums.specs.Code.{of64}
 use Rattle.lines.proofs.Steps.{nothing-end, nothing-not}
-use Rattle.sums.proofs.Differences.{dif-ge, dif-lt}
 use Rattle.lines.specs.Lines.{Kind, register, kinds_of, pushed, parts, parts_by, word_made, word_for, saying_of, Saying}
 use Rattle.lines.specs.Reader.{operand_read, nothing, with, operands_read}
 use Rattle.lines.specs.Code.{comma_read, last_read, is_numbered}
@@ -78,7 +77,7 @@ module _ (op : Opcode) (a b : ℕ) where
   parts-two v i h e = go (form_of op) h
     where
       no : {A : Type 0} → false ≡ true → A
-      no h = absurd (let z : ◌≡◌ {A = ℕ} 0 1 = cc in omega arith)
+      no h = absurd (cc)
 
       go : (f : Form) → is_numbered f ≡ true → parts_by op f (pos a ∷ (pos b ∷ (v ∷ []))) ≡ parts op a b 0 i
       go R h = no h
@@ -97,12 +96,8 @@ pub parts_none : (op : Opcode) → form_of op ≡ Alone → parts_by op (form_of
 unfolding parts_by
 parts_none op e = ap (λ (f : Form). parts_by op f []) e
 
-pub bits_of : (v : ℕ) → v < 2 ^ 64 → (v + 2 ^ 63) % 2 ^ 64 ≡ of_z w64 (of64 v)
-bits_of v h = go (ltb v (2 ^ 63)) refl
-  where
-    go : (c : Bool) → ltb v (2 ^ 63) ≡ c → (v + 2 ^ 63) % 2 ^ 64 ≡ of_z w64 (of64 v)
-    go true e = let l = ltb-true v (2 ^ 63) e in sym (ap (of_z w64) (dif-lt v (2 ^ 63) l) ∙ omega arith)
-    go false e = let l = ltb-false v (2 ^ 63) e in sym (ap (of_z w64) (dif-ge v (2 ^ 63) l) ∙ omega arith)
+pub bits-of : (v : ℤ) (i : ℕ) → FitsSigned w64 v → i ≡ of_z w64 (to_z w64 (of_z w64 v)) → i ≡ of_z w64 v
+bits-of v i f e = e ∙ ap (of_z w64) (to_z-of_z w64 v f)
 
 -- ---- no operands
 module _ (s : List ℕ) (at n : ℕ) (look : List ℕ → Option ℤ) (p : Passed is_space s at n) where

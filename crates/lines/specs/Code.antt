@@ -1,5 +1,5 @@
 -- Inner: what the answers say of the line that was read.
-use Rattle.std.specs.Prelude.{Option, ℕ, ◌+◌, ◌^◌, ◌≤◌, Bool, true, false, cond, ◌&&◌, ◌||◌, List, length, drop, ℤ, pos, ◌==◌, nat_le, nat_lt}
+use Rattle.std.specs.Prelude.{Option, ℕ, ◌+◌, ◌≤◌, Bool, true, false, cond, ◌&&◌, ◌||◌, List, length, drop, ℤ, pos, ◌==◌, nat_le, Option as RustOption, Some, None}
 use Rattle.opcode.specs.declared.Form.{Form}
 use Rattle.opcode.specs.declared.Form.TheVariants.{R, I, Shift, S, B, J, Alone}
 use Rattle.labels.specs.Bytes.{is_space, is_letter, is_part, head_of, key_of}
@@ -8,7 +8,6 @@ use Rattle.sums.specs.Reader.{Got, got, bad, onto}
 use Rattle.sums.specs.Code.{look_in}
 use Rattle.lines.specs.Lines.{Kind, Saying, empty, named, word, wrong, base_of}
 use Rattle.lines.specs.Reader.{operand_read, nothing}
-use Rattle.lines.specs.declared.operands.Reg.{Reg}
 use Rattle.lines.specs.declared.Said.{Said}
 use Rattle.lines.specs.declared.Start.{Start}
 
@@ -22,13 +21,13 @@ comma_read k look t = onto (λ v u. cond (head_of u == 44) (got v (tail_of u)) b
 unfoldable pub last_read : Kind → (List ℕ → Option ℤ) → List ℕ → Got
 last_read k look t = onto (λ v u. cond (nothing u) (got v u) bad) (operand_read k look (skip t))
 
-abbrev pub reg_seen : List ℕ → Reg → Got
-reg_seen s (Reg.Of r n) = got (pos r) (drop n s)
-reg_seen s Reg.Bad = bad
+abbrev pub reg_seen : List ℕ → RustOption (ℕ × ℕ) → Got
+reg_seen s (Some (r, n)) = got (pos r) (drop n s)
+reg_seen s None = bad
 
-abbrev pub Within : List ℕ → Reg → Type 0
-Within s (Reg.Of r n) = n ≤ length s
-Within s Reg.Bad = Unit {0}
+abbrev pub Within : List ℕ → RustOption (ℕ × ℕ) → Type 0
+Within s (Some (r, n)) = n ≤ length s
+Within s None = Unit {0}
 
 abbrev pub labels_in : List ℕ → List ℕ → ℕ → Form → List ℕ → Option ℤ
 labels_in text table own f = look_in text table (base_of f own)
@@ -39,12 +38,14 @@ said_of s Said.Name = named (run_of is_part (skip s))
 said_of s (Said.Word w) = word w
 said_of s Said.Bad = wrong
 
--- a word, or a greater number where the line is wrong
-abbrev pub word_or_wrong : ℕ → Saying
-word_or_wrong w = cond (nat_lt w (2 ^ 32)) (word w) wrong
+-- a word, if the line is right
+abbrev pub word_or_wrong : RustOption ℕ → Saying
+word_or_wrong (Some w) = word w
+word_or_wrong None = wrong
 
-abbrev pub word_or_bad : ℕ → Said
-word_or_bad w = cond (nat_lt w (2 ^ 32)) (Said.Word w) Said.Bad
+abbrev pub said_by : RustOption ℕ → Said
+said_by (Some w) = Said.Word w
+said_by None = Said.Bad
 
 -- the forms with two registers and a number
 abbrev pub is_numbered : Form → Bool

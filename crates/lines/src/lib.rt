@@ -6,12 +6,13 @@ mod operands; // operands.rt: registers and numbers
 
 ghost use Rattle.std.specs.Prelude.{◌≡◌};
 ghost use Rattle.lines.specs.Reader.{line_read};
-ghost use Rattle.lines.specs.Code.{start_of, labels_in, said_of, word_or_bad};
+ghost use Rattle.lines.specs.Code.{start_of, labels_in, said_of, said_by};
 
-use instructions::{WRONG, instruction};
+use instructions::instruction;
 use labels::table::name_at;
 use labels::text::{byte, letter, skip};
 use names::named;
+use sums::Scope;
 
 // How a line begins: with nothing; as the definition of the label at a place; with a name, which may be an instruction's: its key, and the
 // place of what follows; or with something else.
@@ -53,13 +54,13 @@ pub fn start_of(s: &[u8]) -> Start
     Start::Label(at)
 }
 
-fn word_or_bad(w: u64) -> Said
-    ensures { result ≡ word_or_bad w }
+fn word_said(word: Option<u32>) -> Said
+    ensures { result ≡ said_by word }
 {
-    if w < WRONG {
-        return Said::Word(w as u32);
+    match word {
+        Some(w) => Said::Word(w),
+        None => Said::Bad,
     }
-    Said::Bad
 }
 
 // What a line of a text says, where `own` instructions stand before it.
@@ -73,7 +74,12 @@ pub fn line(s: &[u8], text: &[u8], table: &[u64], own: u64) -> Said
             let Some(op) = named(key) else {
                 return Said::Bad;
             };
-            word_or_bad(instruction(s, text, table, own, op, n))
+            let scope = Scope {
+                text,
+                table,
+                base: own,
+            };
+            word_said(instruction(s, scope, op, n))
         }
         Start::Other => Said::Bad,
     }

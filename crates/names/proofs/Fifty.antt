@@ -1,10 +1,10 @@
 -- The fifty names, computed once over the list of opcodes: they differ, and the code's table has them. Assumes nothing.
 use Rattle.std.specs.Prelude.{Some}
+use Rattle.std.proofs.lemmas.Bool.{and_parts}
 use mathlib.Core.Path.{◌≡◌, refl, sym, ap, ◌∙◌}
-use mathlib.Core.Bool.{Bool, true, false, ◌&&◌}
+use mathlib.Core.Bool.{true}
 use mathlib.Core.List.{List, map}
 use Prim.Native.Nat.{ℕ, ◌-◌, ◌≤◌}
-use native.Mathlib.Omega.{arith}
 use lib.Dec.{leb}
 use lib.ListN.{get_or}
 use borrow.Author.Tests.{leb-true}
@@ -30,11 +30,7 @@ pub numbered : (op : Opcode) → (1 ≤ opcode_number op) × (opcode_number op �
 unfolding all
 numbered op =
     let w = everywhere all O.Add place all-at (λ (op : Opcode). within 1 50 (opcode_number op)) (λ (op : Opcode). true) refl refl op in
-    (leb-true 1 (opcode_number op) (both_true (leb 1 (opcode_number op)) (leb (opcode_number op) 50) w).0, leb-true (opcode_number op) 50 (both_true (leb 1 (opcode_number op)) (leb (opcode_number op) 50) w).1)
-  where
-    both_true : (a b : Bool) → a && b ≡ true → (a ≡ true) × (b ≡ true)
-    both_true true b h = (refl, h)
-    both_true false b h = absurd (let z : ◌≡◌ {A = ℕ} 0 1 = cc in omega arith)
+    (leb-true 1 (opcode_number op) (and_parts (leb 1 (opcode_number op)) (leb (opcode_number op) 50) w).0, leb-true (opcode_number op) 50 (and_parts (leb 1 (opcode_number op)) (leb (opcode_number op) 50) w).1)
 
 pub key-at : (op : Opcode) → get_or (map name_key all) (opcode_number op - 1) 0 ≡ name_key op
 unfolding all key_from

@@ -1,4 +1,5 @@
-// The fifty names, each once, as its key: a number with the last letter in the lowest byte.
+// The fifty names, each once, as its key: a number with the last letter in the lowest byte. A constant's value may hold no call, so none
+// is computed from the name's text here; the proofs do that.
 pub const ADD: u64 = 0x416464;
 
 pub const SUB: u64 = 0x537562;

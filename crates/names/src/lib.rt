@@ -62,17 +62,11 @@ const KEYS: [u64; 50] = [
     keys::EBREAK,
 ];
 
-fn place(n: u8) -> usize
-    ensures { result ≡ n }
-{
-    n as usize
-}
-
 // The key of an opcode's name.
 pub fn name_of(op: Opcode) -> u64
     ensures { result ≡ name_key op }
 {
-    KEYS[place(opcode_number(op)) - 1]
+    KEYS[usize::from(opcode_number(op)) - 1]
 }
 
 // The opcode whose name has a key. A search in the table would copy it for each look.

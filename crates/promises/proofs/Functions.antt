@@ -748,7 +748,7 @@ labels·table·note κs a x y = two (λ r m. r & tt & m & x.1.1.1)
 
 -- ---- sums
 pub sums·sum : Determined sums_says.sum.ended sums.sum.Reads.Learnt
-sums·sum κs a x y = one-read a.0.now a.1.1.1.1.0 (λ r. r & x.1) x.0 y.0
+sums·sum κs a x y = one-read a.0.now a.1.1.0 (λ r. r & x.1) x.0 y.0
 
 -- ---- lines
 pub lines·start-of : Determined lines_says.start_of.ended lines.start_of.Reads.Learnt

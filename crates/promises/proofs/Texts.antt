@@ -1,18 +1,13 @@
 -- What a promise says of an answer about a text, taken back to the answer. f: all that a call leaves, read off it.
-use Prim.Native.Nat.{ℕ, suc, ◌+◌, ◌-◌, ◌^◌}
-use mathlib.Core.Path.{◌≡◌, refl, sym, ap, ap₂, ◌∙◌}
-use mathlib.Core.Bool.{Bool, true, false}
+use Prim.Native.Nat.{ℕ, ◌-◌}
+use mathlib.Core.Path.{◌≡◌, refl, sym, ap, ◌∙◌}
 use mathlib.Core.List.{List}
 use native.Mathlib.Omega.{arith}
-use lib.Dec.{ltb}
-use lib.IntN.{ℤ, pos, negsuc}
+use lib.IntN.{ℤ}
+use Rattle.std.specs.Prelude.{Option, Some, None}
 use lib.ListN.{length, length-drop}
-use borrow.Author.Tests.{ltb-true, ltb-false}
 use Rattle.sums.specs.Reader.{Got, got, bad}
-use Rattle.sums.specs.Code.{of64, read_to, Past}
-use Rattle.sums.specs.declared.Read.{Read}
-use Rattle.sums.specs.declared.Read.TheVariants.{Value, Bad}
-use Rattle.sums.proofs.Differences.{dif-ge, dif-lt}
+use Rattle.sums.specs.Code.{read_to, Past}
 use Rattle.lines.specs.Lines.{Saying, empty, named, word, wrong}
 use Rattle.lines.specs.Code.{said_of}
 use Rattle.lines.specs.declared.Said.{Said}
@@ -20,26 +15,15 @@ use Rattle.programs.specs.Promise.{AllLeft, Assembled}
 use Rattle.programs.proofs.Top.{one_answer}
 
 -- ---- a sum: its value, and how much of the text was read
-abbrev raised : ℤ → ℕ
-raised (pos n) = n + 2 ^ 63
-raised (negsuc n) = 2 ^ 63 - suc n
+abbrev read_in : List ℕ → Got → Option (ℤ × ℕ)
+read_in text (got v rest) = Some (v, length text - length rest)
+read_in text bad = None
 
-raised-back : (n : ℕ) → raised (of64 n) ≡ n
-raised-back n = go (ltb n (2 ^ 63)) refl
-  where
-    go : (t : Bool) → ltb n (2 ^ 63) ≡ t → raised (of64 n) ≡ n
-    go true e = let h = ltb-true n (2 ^ 63) e in ap raised (dif-lt n (2 ^ 63) h) ∙ omega arith
-    go false e = let h = ltb-false n (2 ^ 63) e in ap raised (dif-ge n (2 ^ 63) h) ∙ omega arith
+read_back : (text : List ℕ) (at : ℕ) (r : Option (ℤ × ℕ)) → Past text at r → read_in text (read_to text r) ≡ r
+read_back text at (Some (v, n)) p = let h = p.1 in let k = length-drop n text in ap (λ (m : ℕ). Some (v, m)) (omega arith)
+read_back text at None p = refl
 
-abbrev read_in : List ℕ → Got → Read
-read_in text (got v rest) = Value (raised v) (length text - length rest)
-read_in text bad = Bad
-
-read_back : (text : List ℕ) (at : ℕ) (r : Read) → Past text at r → read_in text (read_to text r) ≡ r
-read_back text at (Value v n) p = let h = p.1 in let k = length-drop n text in ap₂ Value (raised-back v) (omega arith)
-read_back text at Bad p = refl
-
-pub one-read : {B : Type 0} {v : Got} (text : List ℕ) (at : ℕ) (f : Read → B) (r s : Read) → (v ≡ read_to text r) × Past text at r
+pub one-read : {B : Type 0} {v : Got} (text : List ℕ) (at : ℕ) (f : Option (ℤ × ℕ) → B) (r s : Option (ℤ × ℕ)) → (v ≡ read_to text r) × Past text at r
     → (v ≡ read_to text s) × Past text at s → f r ≡ f s
 one-read text at f r s p q = ap f (sym (read_back text at r p.1) ∙ ap (read_in text) (sym p.0 ∙ q.0) ∙ read_back text at s q.1)
 

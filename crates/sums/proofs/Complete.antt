@@ -1,5 +1,6 @@
 -- Whatever spells a sum is read as its value: the reader takes the whole language, and each text has one value. Assumes nothing.
 use Rattle.std.specs.Prelude.{None, Option, Some}
+use Rattle.std.proofs.lemmas.Bool.{and_parts, or_parts}
 use mathlib.Core.Path.{◌≡◌, refl, ap, ◌∙◌, subst}
 use mathlib.Core.Bool.{true, false}
 use mathlib.Core.List.{List, [], ◌∷◌, ◌++◌, append_assoc}
@@ -13,17 +14,17 @@ use Rattle.labels.specs.Bytes.{is_space, is_digit, is_letter, is_part, every, is
 use Rattle.sums.specs.Sums.{Sign, unsigned, plus, minus, Op, add, sub, Term, Rest, number, label, group, done, then, sign_text, op_text, term_text, rest_text, Sum, sum_text, checked, known, signed, join, both, term_value, rest_value, sum_value}
 use Rattle.labels.specs.Reading.{tail_of, run_of, past, skip}
 use Rattle.sums.specs.Reader.{Got, given, onto, digits_read, number_read, name_read, closed_after, term_by, more_by, sum_by, sum_read, inner_read, term_read}
-use Rattle.labels.proofs.Spans.{both_true, past_stop, past-append, run-append, skip-spaces}
-use Rattle.labels.proofs.Classes.{digit_low, digit-high, digit-no-letter, letter-low, or-true, or-false}
+use Rattle.labels.proofs.Spans.{past_stop, past-append, run-append, skip-spaces}
+use Rattle.labels.proofs.Classes.{digit_low, digit-high, digit-no-letter, letter-low, or-true}
 
 -- ---- a term
 module _ (look : List ℕ → Option ℤ) (d : ℕ) where
   digits-law : (s : Sign) (ds t : List ℕ) → is_number ds ≡ true → is_part (head_of t) ≡ false → digits_read s (ds ++ t) ≡ given (checked (signed s (decimal ds))) t
   unfolding digits_read is_number every
-  digits-law s [] t h e = absurd (let z : ◌≡◌ {A = ℕ} 0 1 = cc in omega arith)
+  digits-law s [] t h e = absurd (cc)
   digits-law s (b ∷ ds) t h e =
-      let first = (both_true (is_digit b) (every is_digit ds) h).0 in
-      let stop = (or-false (is_letter (head_of t)) (is_digit (head_of t)) e).1 in
+      let first = (and_parts (is_digit b) (every is_digit ds) h).0 in
+      let stop = (or_parts (is_letter (head_of t)) (is_digit (head_of t)) e).1 in
       let ends : past is_digit ((b ∷ ds) ++ t) ≡ t = past-append is_digit (b ∷ ds) t h ∙ past_stop is_digit t stop in
       let runs : run_of is_digit ((b ∷ ds) ++ t) ≡ b ∷ ds = run-append is_digit (b ∷ ds) t h stop in
       let starts : is_digit (head_of ((b ∷ ds) ++ t)) ≡ true = unfold head_of in first in
@@ -39,22 +40,22 @@ module _ (look : List ℕ → Option ℤ) (d : ℕ) where
 
   number-law : (s : Sign) (ds : List ℕ) (h : is_number ds ≡ true) (t : List ℕ) → is_part (head_of t) ≡ false → term_read d look (sign_text s ++ ds ++ t) ≡ given (checked (signed s (decimal ds))) t
   unfolding term_read term_by number_read head_of tail_of is_number every
-  number-law unsigned [] h t e = absurd (let z : ◌≡◌ {A = ℕ} 0 1 = cc in omega arith)
-  number-law unsigned (b ∷ ds) h t e = plain-law b (ds ++ t) (both_true (is_digit b) (every is_digit ds) h).0 ∙ digits-law unsigned (b ∷ ds) t h e
+  number-law unsigned [] h t e = absurd (cc)
+  number-law unsigned (b ∷ ds) h t e = plain-law b (ds ++ t) (and_parts (is_digit b) (every is_digit ds) h).0 ∙ digits-law unsigned (b ∷ ds) t h e
   number-law plus ds h t e = digits-law plus ds t h e
   number-law minus ds h t e = digits-law minus ds t h e
 
   pub parts : (b : ℕ) (name : List ℕ) → is_name (b ∷ name) ≡ true → every is_part (b ∷ name) ≡ true
   unfolding is_name every
   parts b name h =
-      let k = both_true (is_letter b) (every is_part name) h in
+      let k = and_parts (is_letter b) (every is_part name) h in
       rw (or-true (is_letter b) (is_digit b) k.0) k.1
 
   label-law : (name : List ℕ) (h : is_name name ≡ true) (t : List ℕ) → is_part (head_of t) ≡ false → term_read d look (name ++ t) ≡ given (known (look name)) t
   unfolding term_read term_by name_read is_name
-  label-law [] h t e = absurd (let z : ◌≡◌ {A = ℕ} 0 1 = cc in omega arith)
+  label-law [] h t e = absurd (cc)
   label-law (b ∷ name) h t e =
-      let first = (both_true (is_letter b) (every is_part name) h).0 in
+      let first = (and_parts (is_letter b) (every is_part name) h).0 in
       let l = letter-low b first in
       let are = parts b name h in
       let ends : past is_part ((b ∷ name) ++ t) ≡ t = past-append is_part (b ∷ name) t are ∙ past_stop is_part t e in
@@ -66,12 +67,12 @@ module _ (look : List ℕ → Option ℤ) (d : ℕ) where
 -- the first byte of a term is no space
 pub term-head : (e : Term) (t : List ℕ) → is_space (head_of (term_text e ++ t)) ≡ false
 unfolding term_text head_of is_number is_name every
-term-head (number unsigned [] h) t = absurd (let z : ◌≡◌ {A = ℕ} 0 1 = cc in omega arith)
-term-head (number unsigned (b ∷ ds) h) t = let l = digit_low b (both_true (is_digit b) (every is_digit ds) h).0 in ne_eqb b 32 (λ z. omega arith)
+term-head (number unsigned [] h) t = absurd (cc)
+term-head (number unsigned (b ∷ ds) h) t = let l = digit_low b (and_parts (is_digit b) (every is_digit ds) h).0 in ne_eqb b 32 (λ z. omega arith)
 term-head (number plus ds h) t = refl
 term-head (number minus ds h) t = refl
-term-head (label [] h) t = absurd (let z : ◌≡◌ {A = ℕ} 0 1 = cc in omega arith)
-term-head (label (b ∷ name) h) t = let l = letter-low b (both_true (is_letter b) (every is_part name) h).0 in ne_eqb b 32 (λ z. omega arith)
+term-head (label [] h) t = absurd (cc)
+term-head (label (b ∷ name) h) t = let l = letter-low b (and_parts (is_letter b) (every is_part name) h).0 in ne_eqb b 32 (λ z. omega arith)
 term-head (group g e r k) t = refl
 
 pub skip-term : (e : Term) (t : List ℕ) → skip (term_text e ++ t) ≡ term_text e ++ t

@@ -1,20 +1,20 @@
 -- Digits that are counted one by one. Assumes nothing.
-use Rattle.std.specs.Prelude.{None, Option}
 use mathlib.Core.Path.{◌≡◌, refl, sym, ap, ◌∙◌}
 use mathlib.Core.Bool.{Bool, true, false, cond}
 use mathlib.Core.List.{List, [], ◌∷◌}
 use Prim.Native.Nat.{ℕ, ◌+◌, ◌-◌, ◌*◌, ◌^◌, ◌≤◌, ◌<◌}
 use native.Mathlib.Omega.{arith}
-use lib.ListN.{drop}
+use lib.ListN.{length, drop}
+use lib.IntN.{ℤ, pos, neg_ℤ}
+use Rattle.std.proofs.lemmas.Int.{ints}
 use Rattle.labels.specs.Bytes.{is_digit, decimal, decimal_from, head_of}
 use Rattle.sums.specs.Sums.{checked, signed}
 use Rattle.labels.specs.Reading.{run_of, past}
-use Rattle.sums.specs.Reader.{bad, given, digits_read}
-use Rattle.sums.specs.Code.{sign_of, value_read, read_to, Past, read_of}
-use Rattle.sums.specs.declared.numbers.Both.{Both}
-use Rattle.sums.specs.declared.numbers.Both.TheVariants.{Of, Over}
+use Rattle.sums.specs.Reader.{got, bad, given, digits_read}
+use Rattle.std.specs.Prelude.{Option, Option as RustOption, Some, None}
+use Rattle.sums.specs.Code.{sign_of, value_read}
 use Rattle.labels.proofs.Spans.{tail-drop, past_stop, run-stop, run_on}
-use Rattle.sums.proofs.Differences.{signed-dif, dif-high, dif-low}
+use Rattle.sums.proofs.Differences.{not-fitting}
 use Rattle.labels.proofs.Steps.{Going, starts, goes_on, class-inside}
 
 pub record Counting (s : List ℕ) (at v n : ℕ) : Type 0 where
@@ -37,26 +37,26 @@ module _ (s : List ℕ) (at v n : ℕ) (g : Counting s at v n) where
   counted h = g.value ∙ ap (decimal_from v) (run-stop is_digit (drop n s) h)
 
   moved : is_digit (head_of (drop at s)) ≡ true → is_digit (head_of (drop n s)) ≡ false → at ≡ n → ⊥
-  moved a h e = let q : true ≡ false = sym a ∙ ap (λ (k : ℕ). is_digit (head_of (drop k s))) e ∙ h in let k : ◌≡◌ {A = ℕ} 0 1 = cc in omega arith
+  moved a h e = let q : true ≡ false = sym a ∙ ap (λ (k : ℕ). is_digit (head_of (drop k s))) e ∙ h in cc
 
-  pub digits-end : (negative : Bool) (b : Both) → is_digit (head_of (drop at s)) ≡ true → is_digit (head_of (drop n s)) ≡ false → checked (signed (sign_of negative) v) ≡ value_read b
-      → (digits_read (sign_of negative) (drop at s) ≡ read_to s (read_of b n)) × Past s at (read_of b n)
-  unfolding digits_read
-  digits-end negative b a h e = (
-    ap (λ (c : Bool). cond c (given (checked (signed (sign_of negative) (decimal (run_of is_digit (drop at s))))) (past is_digit (drop at s))) bad) a
+  module _ (a : is_digit (head_of (drop at s)) ≡ true) (h : is_digit (head_of (drop n s)) ≡ false) (negative : Bool) (r : RustOption ℤ) (e : checked (signed (sign_of negative) v) ≡ value_read r) where
+    digits-are : digits_read (sign_of negative) (drop at s) ≡ given (value_read r) (drop n s)
+    unfolding digits_read
+    digits-are =
+        ap (λ (c : Bool). cond c (given (checked (signed (sign_of negative) (decimal (run_of is_digit (drop at s))))) (past is_digit (drop at s))) bad) a
         ∙ ap (λ (m : ℕ). given (checked (signed (sign_of negative) m)) (past is_digit (drop at s))) (counted h)
         ∙ ap (λ (o : Option _). given o (past is_digit (drop at s))) e
-        ∙ ap (given (value_read b)) (g.going.from ∙ past_stop is_digit (drop n s) h) ∙ known b,
-    within b,
-  )
-    where
-      known : (b : Both) → given (value_read b) (drop n s) ≡ read_to s (read_of b n)
-      known (Of x) = refl
-      known Over = refl
+        ∙ ap (given (value_read r)) (g.going.from ∙ past_stop is_digit (drop n s) h)
 
-      within : (b : Both) → Past s at (read_of b n)
-      within (Of x) = let i = class-inside is_digit s at refl a in let m = moved a h in let o = g.going.on in (omega arith, g.going.within (omega arith))
-      within Over = tt
+    pub digits-large : r ≡ None → digits_read (sign_of negative) (drop at s) ≡ bad
+    digits-large q = digits-are ∙ ap (λ (r : RustOption ℤ). given (value_read r) (drop n s)) q
+
+    pub digits-end : (x : ℤ) → r ≡ Some x → (digits_read (sign_of negative) (drop at s) ≡ got x (drop n s)) × ((at < n) × (n ≤ length s))
+    digits-end x q =
+        let i = class-inside is_digit s at refl a in
+        let m = moved a h in
+        let o = g.going.on in
+        (digits-are ∙ ap (λ (r : RustOption ℤ). given (value_read r) (drop n s)) q, (omega arith, g.going.within (omega arith)))
 
   grows : (v : ℕ) (ds : List ℕ) → v ≤ decimal_from v ds
   unfolding decimal_from
@@ -64,8 +64,8 @@ module _ (s : List ℕ) (at v n : ℕ) (g : Counting s at v n) where
   grows v (d ∷ ds) = let i = grows (v * 10 + (d - 48)) ds in omega arith
 
   too_many : (negative : Bool) (m : ℕ) → 2 ^ 63 < m → checked (signed (sign_of negative) m) ≡ None
-  too_many true m h = ap checked (signed-dif true m) ∙ dif-low 0 m (omega arith)
-  too_many false m h = ap checked (signed-dif false m) ∙ dif-high m 0 (omega arith)
+  too_many true m h = not-fitting (neg_ℤ (pos m)) (λ f. omega (arith, ints))
+  too_many false m h = not-fitting (pos m) (λ f. omega (arith, ints))
 
   pub digits-over : (negative : Bool) → is_digit (head_of (drop at s)) ≡ true → is_digit (head_of (drop n s)) ≡ true → 922337203685477580 < v → digits_read (sign_of negative) (drop at s) ≡ bad
   unfolding digits_read

@@ -1,5 +1,6 @@
 -- Whatever is read spells a sum of that value: the reader takes nothing but the language. Assumes nothing.
 use Rattle.std.specs.Prelude.{None, Option, Some}
+use Rattle.std.proofs.lemmas.Bool.{and_parts}
 use mathlib.Core.Path.{◌≡◌, refl, sym, ap, ◌∙◌}
 use mathlib.Core.Bool.{Bool, true, false, cond}
 use mathlib.Core.List.{List, [], ◌∷◌, ◌++◌, append_assoc}
@@ -13,11 +14,11 @@ use Rattle.labels.specs.Bytes.{is_space, is_digit, is_letter, is_part, every, is
 use Rattle.sums.specs.Sums.{Sign, unsigned, plus, minus, Op, add, sub, Term, Rest, number, label, group, done, then, sign_text, op_text, term_text, rest_text, Sum, sum_text, checked, known, signed, join, both, term_value, rest_value, sum_value}
 use Rattle.labels.specs.Reading.{tail_of, run_of, past, skip}
 use Rattle.sums.specs.Reader.{Got, got, bad, given, onto, digits_read, number_read, name_read, closed_after, term_by, more_by, sum_read, inner_read, term_read}
-use Rattle.labels.proofs.Spans.{both_true, run_past, run_on, every-run, are-spaces}
+use Rattle.labels.proofs.Spans.{run_past, run_on, every-run, are-spaces}
 use Rattle.sums.proofs.Complete.{sum_is, goes}
 
 pub bad-got : {A : Type 0} {v : ℤ} {u : List ℕ} → bad ≡ got v u → A
-bad-got h = absurd (let z : ◌≡◌ {A = ℕ} 0 1 = cc in omega arith)
+bad-got h = absurd (cc)
 
 pub given-got : (o : Option ℤ) (t : List ℕ) (v : ℤ) (u : List ℕ) → given o t ≡ got v u → (o ≡ Some v) × (t ≡ u)
 given-got None t v u h = bad-got h
@@ -69,7 +70,7 @@ module _ (look : List ℕ → Option ℤ) (d : ℕ) where
 
   every-tail : (p : ℕ → Bool) (b : ℕ) (t : List ℕ) → every p (b ∷ t) ≡ true → every p t ≡ true
   unfolding every
-  every-tail p b t h = (both_true (p b) (every p t) h).1
+  every-tail p b t h = (and_parts (p b) (every p t) h).1
 
   pub is-name : (t : List ℕ) → is_letter (head_of t) ≡ true → is_name (run_of is_part t) ≡ true
   unfolding is_name

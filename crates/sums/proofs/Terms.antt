@@ -1,5 +1,4 @@
 -- What the reader's definitions say of a text from a place on, case by case. Assumes nothing.
-use Rattle.std.specs.Prelude.{None, Option, Some}
 use mathlib.Core.Path.{◌≡◌, refl, sym, ap, ◌∙◌}
 use mathlib.Core.Bool.{Bool, true, false, cond}
 use mathlib.Core.List.{List}
@@ -14,18 +13,18 @@ use Rattle.labels.specs.Bytes.{is_space, is_letter, is_part, head_of}
 use Rattle.sums.specs.Sums.{add, sub, plus, minus, checked, known, join, dif}
 use Rattle.labels.specs.Reading.{tail_of, run_of, past, skip, Passed}
 use Rattle.sums.specs.Reader.{Got, got, bad, given, onto, digits_read, number_read, name_read, closed_after, term_by, more_by, sum_read, inner_read, term_read}
-use Rattle.sums.specs.Code.{of64, op_of, sign_at, look_in, read_to, Past}
+use Rattle.std.specs.Prelude.{Option, Option as RustOption, Some, None}
+use Rattle.sums.specs.Code.{op_of, op_at, look_in, read_to, Past}
+use Rattle.sums.specs.declared.numbers.Op.{Op}
+use Rattle.sums.specs.declared.numbers.Op.TheVariants.{Add, Sub}
 use Rattle.labels.specs.Table.{index_in, found_by}
-use Rattle.labels.specs.declared.table.Found.TheVariants.{At, Nothing}
-use Rattle.sums.specs.declared.Read.{Read}
-use Rattle.sums.specs.declared.Read.TheVariants.{Value, Bad}
 use Rattle.labels.proofs.Spans.{inside, tail-drop, past_head}
 use Rattle.labels.proofs.Steps.{class-inside}
 use Rattle.sums.proofs.Complete.{sum_is, goes}
 
-pub sooner : (s : List ℕ) (at k : ℕ) (r : Read) → at ≤ k → Past s k r → Past s at r
-sooner s at k (Value v n) h p = let a = p.0 in (omega arith, p.1)
-sooner s at k Bad h p = tt
+pub sooner : (s : List ℕ) (at k : ℕ) (r : RustOption (ℤ × ℕ)) → at ≤ k → Past s k r → Past s at r
+sooner s at k (Some (v, n)) h p = let a = p.0 in (omega arith, p.1)
+sooner s at k None h p = tt
 
 module _ (s : List ℕ) (at : ℕ) where
   pub at_byte : (b : ℕ) → head_of (drop at s) ≡ suc b → at < length s
@@ -45,13 +44,13 @@ module _ (s : List ℕ) (at : ℕ) where
   number-bare p m = simp (ne_eqb _ _ p, ne_eqb _ _ m)
 
 -- ---- labels
-pub found_none : (o : Option ℕ) (m : ℕ) → found_by o m ≡ Nothing → o ≡ None
+pub found_none : (o : Option ℕ) (m : ℕ) → found_by o m ≡ None → o ≡ None
 found_none None m e = refl
-found_none (Some j) m e = absurd (let z : ◌≡◌ {A = ℕ} 0 1 = cc in omega arith)
+found_none (Some j) m e = absurd (cc)
 
-pub found_at : (o : Option ℕ) (m i n : ℕ) → found_by o m ≡ At i n → (o ≡ Some i) × (n ≡ m)
-found_at None m i n e = absurd (let z : ◌≡◌ {A = ℕ} 0 1 = cc in omega arith)
-found_at (Some j) m i n e = (cc, cc)
+pub found_at : (o : Option ℕ) (m i n : ℕ) → found_by o m ≡ Some (i, n) → (o ≡ Some i) × (n ≡ m)
+found_at None m i n e = absurd (cc)
+found_at (Some j) m i n e = let p : ◌≡◌ {A = ℕ × ℕ} (j, m) (i, n) = cc in (ap (λ (q : ℕ × ℕ). Some q.0) p, sym (ap (λ (q : ℕ × ℕ). q.1) p))
 
 module _ (text table : List ℕ) (base : ℕ) (t : List ℕ) where
   pub name-none : index_in text table (run_of is_part t) ≡ None → name_read (look_in text table base) t ≡ bad
@@ -72,18 +71,18 @@ name-past s at n h p =
     let moved : at ≡ n → ⊥ = λ e.
     let part : is_part (head_of (drop at s)) ≡ true = simp h in
     let q : true ≡ false = sym part ∙ ap (λ (k : ℕ). is_part (head_of (drop k s))) e ∙ ap (λ (t : List ℕ). is_part (head_of t)) p.rest ∙ past_head is_part (drop at s) refl in
-    let z : ◌≡◌ {A = ℕ} 0 1 = cc in omega arith in
+    cc in
     (omega arith, p.within (omega arith))
 
 -- ---- a group
-module _ (s : List ℕ) where
-  pub shut-yes : (r : Read) (v n : ℕ) → r ≡ Value v n → head_of (drop n s) ≡ 41 → onto closed_after (read_to s r) ≡ read_to s (Value v (n + 1))
+module _ (s : List ℕ) (v : ℤ) (n : ℕ) where
+  pub shut-yes : head_of (drop n s) ≡ 41 → closed_after v (drop n s) ≡ got v (drop (n + 1) s)
   unfolding closed_after
-  shut-yes r v n e h = ap (λ (x : Read). onto closed_after (read_to s x)) e ∙ simp (eq-eqb _ _ h) (ap (got (of64 v)) (tail-drop s n))
+  shut-yes h = simp (eq-eqb _ _ h) (ap (got v) (tail-drop s n))
 
-  pub shut-no : (r : Read) (v n : ℕ) → r ≡ Value v n → (head_of (drop n s) ≡ 41 → ⊥) → onto closed_after (read_to s r) ≡ bad
+  pub shut-no : (head_of (drop n s) ≡ 41 → ⊥) → closed_after v (drop n s) ≡ bad
   unfolding closed_after
-  shut-no r v n e h = ap (λ (x : Read). onto closed_after (read_to s x)) e ∙ simp (ne_eqb _ _ h)
+  shut-no h = simp (ne_eqb _ _ h)
 
 module _ (s : List ℕ) (at : ℕ) (d : ℕ) (look : List ℕ → Option ℤ) where
   term-open : head_of (drop at s) ≡ 40 → term_read d look (drop at s) ≡ onto closed_after (inner_read d look (skip (drop (at + 1) s)))
@@ -101,7 +100,7 @@ module _ (s : List ℕ) (at : ℕ) (d : ℕ) (look : List ℕ → Option ℤ) wh
   pub term-flat : head_of (drop at s) ≡ 40 → d ≡ 0 → term_read d look (drop at s) ≡ bad
   term-flat h z = term-open h ∙ ap (λ (k : ℕ). onto closed_after (inner_read k look (skip (drop (at + 1) s)))) z
 
-  pub term-deep : (m : ℕ) (r : Read) → head_of (drop at s) ≡ 40 → (d ≡ 0 → ⊥) → Passed is_space s (at + 1) m → sum_read (d - 1) look (drop m s) ≡ read_to s r → term_read d look (drop at s) ≡ onto closed_after (read_to s r)
+  pub term-deep : (m : ℕ) (r : RustOption (ℤ × ℕ)) → head_of (drop at s) ≡ 40 → (d ≡ 0 → ⊥) → Passed is_space s (at + 1) m → sum_read (d - 1) look (drop m s) ≡ read_to s r → term_read d look (drop at s) ≡ onto closed_after (read_to s r)
   term-deep m r h n p e = term-open h ∙ ap (onto closed_after) (ap (inner_read d look) (sym p.rest) ∙ inner d n (drop m s) ∙ e)
     where
       inner : (d : ℕ) → (d ≡ 0 → ⊥) → (t : List ℕ) → inner_read d look t ≡ sum_read (d - 1) look t
@@ -109,60 +108,48 @@ module _ (s : List ℕ) (at : ℕ) (d : ℕ) (look : List ℕ → Option ℤ) wh
       inner (suc d) n t = ap (λ (k : ℕ). sum_read k look t) (sym (sub-one (suc d)))
 
 -- ---- what follows a term
-sign_at-none : (c : ℕ) → sign_at c ≡ 0 → (eqb c 43 ≡ false) × (eqb c 45 ≡ false)
-sign_at-none c h = go (eqb c 43) (eqb c 45) h
-  where
-    go : (x y : Bool) → ◌≡◌ {A = ℕ} (cond x 43 (cond y 45 0)) 0 → (x ≡ false) × (y ≡ false)
-    go true y h = absurd (omega arith)
-    go false true h = absurd (omega arith)
-    go false false h = (refl, refl)
-
 module _ (T : List ℕ → Got) (f : ℕ) (v : ℤ) (s : List ℕ) (n : ℕ) where
-  pub more-stop : sign_at (head_of (drop n s)) ≡ 0 → more_by T (suc f) v (drop n s) ≡ got v (drop n s)
-  unfolding more_by
-  more-stop h = let k = sign_at-none (head_of (drop n s)) h in simp (k.0, k.1)
-
-  pub more-goes : (c : ℕ) → c ≡ sign_at (head_of (drop n s)) → (c ≡ 0 → ⊥) → (m : ℕ) → Passed is_space s (n + 1) m → more_by T (suc f) v (drop n s) ≡ goes T f (op_of c) v (T (drop m s))
+  pub more-stop : op_at (head_of (drop n s)) ≡ None → more_by T (suc f) v (drop n s) ≡ got v (drop n s)
   unfolding more_by goes
-  more-goes c e h m p = go (eqb (head_of (drop n s)) 43) (eqb (head_of (drop n s)) 45) refl refl
+  more-stop h = go (eqb (head_of (drop n s)) 43) (eqb (head_of (drop n s)) 45) h
     where
-      is-plus : eqb (head_of (drop n s)) 43 ≡ true → sign_at (head_of (drop n s)) ≡ 43
-      is-plus ex = simp ex
+      go : (x y : Bool) → cond x (Some Add) (cond y (Some Sub) None) ≡ None → cond x (goes T f add v (T (skip (tail_of (drop n s))))) (cond y (goes T f sub v (T (skip (tail_of (drop n s))))) (got v (drop n s))) ≡ got v (drop n s)
+      go true y h = absurd (cc)
+      go false true h = absurd (cc)
+      go false false h = refl
 
-      is-minus : eqb (head_of (drop n s)) 43 ≡ false → eqb (head_of (drop n s)) 45 ≡ true → sign_at (head_of (drop n s)) ≡ 45
-      is-minus ex ey = simp (ex, ey)
-
-      neither : eqb (head_of (drop n s)) 43 ≡ false → eqb (head_of (drop n s)) 45 ≡ false → sign_at (head_of (drop n s)) ≡ 0
-      neither ex ey = simp (ex, ey)
-
+  pub more-goes : (c : Op) → op_at (head_of (drop n s)) ≡ Some c → (m : ℕ) → Passed is_space s (n + 1) m → more_by T (suc f) v (drop n s) ≡ goes T f (op_of c) v (T (drop m s))
+  unfolding more_by goes
+  more-goes c e m p = go (eqb (head_of (drop n s)) 43) (eqb (head_of (drop n s)) 45) e
+    where
       there : skip (tail_of (drop n s)) ≡ drop m s
       there = ap skip (tail-drop s n) ∙ sym p.rest
 
-      go : (x y : Bool) → eqb (head_of (drop n s)) 43 ≡ x → eqb (head_of (drop n s)) 45 ≡ y → cond x (goes T f add v (T (skip (tail_of (drop n s))))) (cond y (goes T f sub v (T (skip (tail_of (drop n s))))) (got v (drop n s))) ≡ goes T f (op_of c) v (T (drop m s))
-      go true y ex ey = ap (λ (t : List ℕ). goes T f add v (T t)) there ∙ ap (λ (k : ℕ). goes T f (op_of k) v (T (drop m s))) (sym (e ∙ is-plus ex))
-      go false true ex ey = ap (λ (t : List ℕ). goes T f sub v (T t)) there ∙ ap (λ (k : ℕ). goes T f (op_of k) v (T (drop m s))) (sym (e ∙ is-minus ex ey))
-      go false false ex ey = absurd (h (e ∙ neither ex ey))
+      go : (x y : Bool) → cond x (Some Add) (cond y (Some Sub) None) ≡ Some c → cond x (goes T f add v (T (skip (tail_of (drop n s))))) (cond y (goes T f sub v (T (skip (tail_of (drop n s))))) (got v (drop n s))) ≡ goes T f (op_of c) v (T (drop m s))
+      go true y h = let k : Add ≡ c = cc in ap (λ (t : List ℕ). goes T f add v (T t)) there ∙ ap (λ (k : Op). goes T f (op_of k) v (T (drop m s))) k
+      go false true h = let k : Sub ≡ c = cc in ap (λ (t : List ℕ). goes T f sub v (T t)) there ∙ ap (λ (k : Op). goes T f (op_of k) v (T (drop m s))) k
+      go false false h = absurd (cc)
 
 -- one turn of the loop: what is left of the text bounds the turns that are left
-module _ (T : List ℕ → Got) (s : List ℕ) (f v n c m : ℕ) where
-  pub turn-bad : c ≡ sign_at (head_of (drop n s)) → (c ≡ 0 → ⊥) → Passed is_space s (n + 1) m → T (drop m s) ≡ bad → more_by T (suc f) (of64 v) (drop n s) ≡ bad
+module _ (T : List ℕ → Got) (s : List ℕ) (f : ℕ) (v : ℤ) (n : ℕ) (c : Op) (m : ℕ) where
+  pub turn-bad : op_at (head_of (drop n s)) ≡ Some c → Passed is_space s (n + 1) m → T (drop m s) ≡ bad → more_by T (suc f) v (drop n s) ≡ bad
   unfolding goes
-  turn-bad e h p b = more-goes T f (of64 v) s n c e h m p ∙ ap (goes T f (op_of c) (of64 v)) b
+  turn-bad e p b = more-goes T f v s n c e m p ∙ ap (goes T f (op_of c) v) b
 
-  pub turn-over : (w u : ℕ) → c ≡ sign_at (head_of (drop n s)) → (c ≡ 0 → ⊥) → Passed is_space s (n + 1) m → T (drop m s) ≡ got (of64 w) (drop u s) → checked (join (op_of c) (of64 v) (of64 w)) ≡ None → more_by T (suc f) (of64 v) (drop n s) ≡ bad
+  pub turn-over : (w : ℤ) (u : ℕ) → op_at (head_of (drop n s)) ≡ Some c → Passed is_space s (n + 1) m → T (drop m s) ≡ got w (drop u s) → checked (join (op_of c) v w) ≡ None → more_by T (suc f) v (drop n s) ≡ bad
   unfolding goes
-  turn-over w u e h p b o = more-goes T f (of64 v) s n c e h m p ∙ ap (goes T f (op_of c) (of64 v)) b ∙ ap (λ (x : Option ℤ). onto (λ x r. more_by T f x (skip r)) (given x (drop u s))) o
+  turn-over w u e p b o = more-goes T f v s n c e m p ∙ ap (goes T f (op_of c) v) b ∙ ap (λ (x : Option ℤ). onto (λ x r. more_by T f x (skip r)) (given x (drop u s))) o
 
-  pub turn_on : (w u x k : ℕ) → c ≡ sign_at (head_of (drop n s)) → (c ≡ 0 → ⊥) → Passed is_space s (n + 1) m → T (drop m s) ≡ got (of64 w) (drop u s) → checked (join (op_of c) (of64 v) (of64 w)) ≡ Some (of64 x)
-      → Passed is_space s u k → more_by T (suc f) (of64 v) (drop n s) ≡ more_by T f (of64 x) (drop k s)
+  pub turn_on : (w : ℤ) (u : ℕ) (x : ℤ) (k : ℕ) → op_at (head_of (drop n s)) ≡ Some c → Passed is_space s (n + 1) m → T (drop m s) ≡ got w (drop u s) → checked (join (op_of c) v w) ≡ Some x
+      → Passed is_space s u k → more_by T (suc f) v (drop n s) ≡ more_by T f x (drop k s)
   unfolding goes
-  turn_on w u x k e h p b o q =
-      more-goes T f (of64 v) s n c e h m p ∙ ap (goes T f (op_of c) (of64 v)) b ∙ ap (λ (x : Option ℤ). onto (λ x r. more_by T f x (skip r)) (given x (drop u s))) o
-      ∙ ap (more_by T f (of64 x)) (sym q.rest)
+  turn_on w u x k e p b o q =
+      more-goes T f v s n c e m p ∙ ap (goes T f (op_of c) v) b ∙ ap (λ (x : Option ℤ). onto (λ x r. more_by T f x (skip r)) (given x (drop u s))) o
+      ∙ ap (more_by T f x) (sym q.rest)
 
-pub again : (T : List ℕ → Got) (s : List ℕ) (f v n x k : ℕ) (whole : Got) → length s - n ≤ f → n < k → k ≤ length s
-    → whole ≡ more_by T (suc f) (of64 v) (drop n s) → ((f : ℕ) → more_by T (suc f) (of64 v) (drop n s) ≡ more_by T f (of64 x) (drop k s))
-    → (g : ℕ) × ((length s - k ≤ g) × (whole ≡ more_by T (suc g) (of64 x) (drop k s)))
+pub again : (T : List ℕ → Got) (s : List ℕ) (f : ℕ) (v : ℤ) (n : ℕ) (x : ℤ) (k : ℕ) (whole : Got) → length s - n ≤ f → n < k → k ≤ length s
+    → whole ≡ more_by T (suc f) v (drop n s) → ((f : ℕ) → more_by T (suc f) v (drop n s) ≡ more_by T f x (drop k s))
+    → (g : ℕ) × ((length s - k ≤ g) × (whole ≡ more_by T (suc g) x (drop k s)))
 again T s zero v n x k whole b l u e t = absurd (omega arith)
 again T s (suc f) v n x k whole b l u e t = (f, (omega arith, e ∙ t (suc f)))
 
@@ -170,12 +157,12 @@ module _ (d : ℕ) (look : List ℕ → Option ℤ) (s : List ℕ) (at : ℕ) wh
   pub sum-bad : term_read d look (drop at s) ≡ bad → sum_read d look (drop at s) ≡ bad
   sum-bad h = sum_is d look (drop at s) ∙ ap (onto (λ v u. more_by (term_read d look) (suc (length (drop at s))) v (skip u))) h
 
-  pub sum_first : (v u n : ℕ) → term_read d look (drop at s) ≡ got (of64 v) (drop u s) → Passed is_space s u n → at ≤ n
-      → (f : ℕ) × ((length s - n ≤ f) × (sum_read d look (drop at s) ≡ more_by (term_read d look) (suc f) (of64 v) (drop n s)))
+  pub sum_first : (v : ℤ) (u n : ℕ) → term_read d look (drop at s) ≡ got v (drop u s) → Passed is_space s u n → at ≤ n
+      → (f : ℕ) × ((length s - n ≤ f) × (sum_read d look (drop at s) ≡ more_by (term_read d look) (suc f) v (drop n s)))
   sum_first v u n h p l = (
     length (drop at s),
     (
       rw length-drop (omega arith),
-      sum_is d look (drop at s) ∙ ap (onto (λ v u. more_by (term_read d look) (suc (length (drop at s))) v (skip u))) h ∙ ap (more_by (term_read d look) (suc (length (drop at s))) (of64 v)) (sym p.rest),
+      sum_is d look (drop at s) ∙ ap (onto (λ v u. more_by (term_read d look) (suc (length (drop at s))) v (skip u))) h ∙ ap (more_by (term_read d look) (suc (length (drop at s))) v) (sym p.rest),
     ),
   )

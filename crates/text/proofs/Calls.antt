@@ -1,4 +1,5 @@
 -- Of the text that `zkir_print` wrote `zkir_assemble` makes the words again. Assumes nothing.
+use Rattle.std.proofs.lemmas.Bool.{and_parts}
 use mathlib.Core.Path.{◌≡◌, refl, ap, ◌∙◌}
 use mathlib.Core.Bool.{Bool, true, false, cond}
 use mathlib.Core.List.{List, [], ◌∷◌, ◌++◌, map}
@@ -15,7 +16,6 @@ use Rattle.refusal.proofs.Determined.{stop-determined}
 use Rattle.memory.specs.Bytes.{number_of_bytes, number_at}
 use Rattle.memory.proofs.Numbers.{Small, bytes-number}
 use Rattle.labels.specs.Bytes.{every}
-use Rattle.labels.proofs.Spans.{both_true}
 use Rattle.told.specs.Told.{done_told, refused_told}
 use Rattle.told.specs.declared.Told.{Told}
 use Rattle.printing.specs.Print.{Printed, text, undecodable, print_of, words_in, told_of, left_by, print_told, print_leaves}
@@ -30,8 +30,8 @@ use Rattle.text.proofs.RoundTrip.{constant, readers, assembled}
 small : (b : List ℕ) → every (λ b. ltb b 256) b ≡ true → Small b
 unfolding every
 small [] h k = omega arith
-small (x ∷ b) h zero = ltb-true x 256 (both_true (ltb x 256) (every (λ b. ltb b 256) b) h).0
-small (x ∷ b) h (suc k) = small b (both_true (ltb x 256) (every (λ b. ltb b 256) b) h).1 k
+small (x ∷ b) h zero = ltb-true x 256 (and_parts (ltb x 256) (every (λ b. ltb b 256) b) h).0
+small (x ∷ b) h (suc k) = small b (and_parts (ltb x 256) (every (λ b. ltb b 256) b) h).1 k
 
 below : (b : List ℕ) → Small b → number_at 4 b 0 < 2 ^ 32
 unfolding number_of_bytes

@@ -1,6 +1,8 @@
 -- "Printing any decodable program and assembling the print gives the same words." Assumes nothing.
 use Rattle.std.specs.Prelude.{None, Option, Some, Err, Ok, Result}
 use Rattle.refusal.specs.declared.Refusal.{Refusal}
+use Rattle.std.proofs.lemmas.Bool.{and_parts}
+use Rattle.std.proofs.lemmas.List.{append-nil}
 use mathlib.Core.Path.{◌≡◌, refl, sym, ap, ◌∙◌, fun_ext}
 use mathlib.Core.Logic.{⊎_elim}
 use mathlib.Core.Bool.{Bool, true, false, cond, ◌&&◌, not}
@@ -33,11 +35,10 @@ use Rattle.words.proofs.OneWord.{document}
 use Rattle.names.specs.Names.{name_of, register_text}
 use Rattle.labels.specs.Bytes.{is_digit, every}
 use Rattle.sums.specs.Sums.{Sum, Term, done, number, unsigned, minus, sum_text, sum_value, term_text, rest_text, term_value, rest_value, checked, fits64}
-use Rattle.labels.proofs.Spans.{both_true}
 use Rattle.labels.proofs.Classes.{digit_low}
 use Rattle.lines.specs.Lines.{kinds_of, reg, sum, Operands, without, last, more, Line, instruction, operands_text, arguments_text, line_text, pushed, operands_values, bits_at, parts_by, word_made, word_for, word, saying_of, line_saying}
 use Rattle.lines.specs.Reader.{line_read}
-use Rattle.lines.proofs.Complete.{line-complete, append-none}
+use Rattle.lines.proofs.Complete.{line-complete}
 use Rattle.programs.specs.Programs.{with_byte, lines_of, Teller, made, and_word, assemble_from, assemble_of}
 use Rattle.printing.specs.Print.{digits_by, number_text, operand_texts, with_commas, spelled, print_line, Printed, text, undecodable, printed_by, print_of}
 use Rattle.text.proofs.Digits.{written}
@@ -63,7 +64,7 @@ numeral n h = go (ltb n (2 ^ 63)) refl
         let w = written 20 n (omega arith) (omega arith) in
         record {
           tree = single (number unsigned (digits_by 20 n) w.some);
-          text = append-none (digits_by 20 n) ∙ ap (λ (c : Bool). cond c (digits_by 20 n) (45 ∷ digits_by 20 (2 ^ 64 - n))) (sym e);
+          text = append-nil (digits_by 20 n) ∙ ap (λ (c : Bool). cond c (digits_by 20 n) (45 ∷ digits_by 20 (2 ^ 64 - n))) (sym e);
           value = λ look. (pos n, ap (λ (m : ℕ). cond (ltb m (2 ^ 63)) (Some (pos m)) None) w.value ∙ ap (λ (c : Bool). cond c (Some (pos n)) None) e, refl);
         }
     go false e =
@@ -74,7 +75,7 @@ numeral n h = go (ltb n (2 ^ 63)) refl
         let f : ltb k (2 ^ 63) ≡ true = lt-ltb k (2 ^ 63) (omega arith) in
         record {
           tree = single (number minus (digits_by 20 (2 ^ 64 - n)) w.some);
-          text = append-none (45 ∷ digits_by 20 (2 ^ 64 - n)) ∙ ap (λ (c : Bool). cond c (digits_by 20 n) (45 ∷ digits_by 20 (2 ^ 64 - n))) (sym e);
+          text = append-nil (45 ∷ digits_by 20 (2 ^ 64 - n)) ∙ ap (λ (c : Bool). cond c (digits_by 20 n) (45 ∷ digits_by 20 (2 ^ 64 - n))) (sym e);
           value = λ look. (negsuc k, ap (λ (m : ℕ). cond (fits64 (neg_ℤ (pos m))) (Some (neg_ℤ (pos m))) None) (w.value ∙ m) ∙ ap (λ (c : Bool). cond c (Some (negsuc k)) None) f, omega arith);
         }
 
@@ -164,7 +165,7 @@ printed : (p : Parts) → p ≡ kept (form_of p.op) p → Arguments (form_of p.o
 unfolding line_text print_line line_saying word_for
 printed p k a = record {
   tree = instruction 0 p.op a.operands 0;
-  text = ap (name_of p.op ++◌) (append-none (arguments_text a.operands) ∙ a.text);
+  text = ap (name_of p.op ++◌) (append-nil (arguments_text a.operands) ∙ a.text);
   tells = λ look. let v = a.values (look (form_of p.op)) in
       ap (λ (o : Option (List ℤ)). saying_of (word_for p.op o)) v.1 ∙ ap (λ (q : Parts). saying_of (word_made (encoded_in opcode_number q))) (v.2 ∙ sym k);
 }
@@ -172,9 +173,9 @@ printed p k a = record {
 fit : (p : Parts) → parts_fit p ≡ true → p ≡ kept (form_of p.op) p → LineOf p
 unfolding parts_fit
 fit p h k =
-    let x = both_true (ltb p.a 16 && ltb p.b 16 && ltb p.c 16) (imm_fits (form_of p.op) p.imm) h in
-    let y = both_true (ltb p.a 16 && ltb p.b 16) (ltb p.c 16) x.0 in
-    let z = both_true (ltb p.a 16) (ltb p.b 16) y.0 in
+    let x = and_parts (ltb p.a 16 && ltb p.b 16 && ltb p.c 16) (imm_fits (form_of p.op) p.imm) h in
+    let y = and_parts (ltb p.a 16 && ltb p.b 16) (ltb p.c 16) x.0 in
+    let z = and_parts (ltb p.a 16) (ltb p.b 16) y.0 in
     printed p k (arguments p z.0 z.1 y.1 (form_of p.op) x.1)
 
 made-fits : (p : Parts) (w : ℕ) → encoded_in opcode_number p ≡ Ok w → parts_fit p ≡ true
@@ -203,12 +204,12 @@ plain-is b h = simp (ne_eqb b 10 (λ z. omega arith), ne_eqb b 13 (λ z. omega a
 every-both : (p : ℕ → Bool) (s t : List ℕ) → every p s ≡ true → every p t ≡ true → every p (s ++ t) ≡ true
 unfolding every
 every-both p [] t x y = y
-every-both p (b ∷ s) t x y = let k = both_true (p b) (every p s) x in rw k.0 (every-both p s t k.1 y)
+every-both p (b ∷ s) t x y = let k = and_parts (p b) (every p s) x in rw k.0 (every-both p s t k.1 y)
 
 digits-plain : (ds : List ℕ) → every is_digit ds ≡ true → every plain ds ≡ true
 unfolding every
 digits-plain [] h = refl
-digits-plain (d ∷ ds) h = let k = both_true (is_digit d) (every is_digit ds) h in let l = digit_low d k.0 in rw (plain-is d (omega arith)) (digits-plain ds k.1)
+digits-plain (d ∷ ds) h = let k = and_parts (is_digit d) (every is_digit ds) h in let l = digit_low d k.0 in rw (plain-is d (omega arith)) (digits-plain ds k.1)
 
 register-plain : (r : ℕ) → every plain (register_text r) ≡ true
 unfolding every
@@ -222,8 +223,8 @@ line-print : (t u : List ℕ) → every plain t ≡ true → lines_of (t ++ (10 
 unfolding lines_of every plain
 line-print [] u h = refl
 line-print (b ∷ t) u h =
-    let k = both_true (plain b) (every plain t) h in
-    let m = both_true (not (eqb b 10)) (not (eqb b 13)) k.0 in
+    let k = and_parts (plain b) (every plain t) h in
+    let m = and_parts (not (eqb b 10)) (not (eqb b 13)) k.0 in
     rw (not-true (eqb b 10) m.0, not-true (eqb b 13) m.1) (ap (with_byte b) (line-print t u k.1))
 
 number-plain : (n : ℕ) → n < 2 ^ 64 → every plain (number_text n) ≡ true
@@ -265,7 +266,7 @@ names-plain = everywhere all O.Add place all-at (λ (op : Opcode). every plain (
 line_plain : (p : Parts) → parts_fit p ≡ true → every plain (print_line p) ≡ true
 unfolding parts_fit print_line
 line_plain p h =
-    let x = both_true (ltb p.a 16 && ltb p.b 16 && ltb p.c 16) (imm_fits (form_of p.op) p.imm) h in
+    let x = and_parts (ltb p.a 16 && ltb p.b 16 && ltb p.c 16) (imm_fits (form_of p.op) p.imm) h in
     every-both plain (name_of p.op) (spelled (operand_texts (form_of p.op) p)) (names-plain p.op) (spelled-plain (texts-plain (form_of p.op) p x.1))
 
 -- ---- the program
@@ -279,7 +280,7 @@ readers [] t h e = let q : [] ≡ t = cc in ap (λ (t : List ℕ). map reader (l
 readers (w ∷ ws) t h e = go (decode_in opcode_number w) (print_of ws) refl refl e (readers ws)
   where
     small : (ltb w (2 ^ 32) ≡ true) × (every (λ w. ltb w (2 ^ 32)) ws ≡ true)
-    small = both_true (ltb w (2 ^ 32)) (every (λ w. ltb w (2 ^ 32)) ws) h
+    small = and_parts (ltb w (2 ^ 32)) (every (λ w. ltb w (2 ^ 32)) ws) h
 
     go : (d : Result Instruction Refusal) (p : Printed) → decode_in opcode_number w ≡ d → print_of ws ≡ p → printed_by d p ≡ text t
         → ((t : List ℕ) → every (λ w. ltb w (2 ^ 32)) ws ≡ true → print_of ws ≡ text t → map reader (lines_of t) ≡ constant ws)

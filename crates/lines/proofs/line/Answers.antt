@@ -36,7 +36,7 @@ returns-in-Some c =
     (sym c.named.ensures ∙ c.in-Some.is)
     ∙ c.instruction.ensures
     ∙ word-said a.s.now c.instruction.result
-    ∙ ap (said_of a.s.now) (sym c.word_or_bad.ensures)
+    ∙ ap (said_of a.s.now) (sym c.word_said.ensures)
 
 pub returns-in-Other : goal.returns-in-Other
 returns-in-Other c = began c.args.s.now c.start_of.result _ c.start_of.ensures c.in-Other.is _

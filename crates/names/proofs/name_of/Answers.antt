@@ -10,4 +10,4 @@ use Rattle.names.proofs.name_of.Goals as goal
 
 pub returns : goal.returns
 unfolding all key_from
-returns c = ap (λ (n : ℕ). get_or (map name_key all) (n - 1) 0) (c.place.ensures ∙ c.opcode_number.ensures) ∙ key-at c.args.op
+returns c = ap (λ (n : ℕ). get_or (map name_key all) (n - 1) 0) (c.from.ensures ∙ c.opcode_number.ensures) ∙ key-at c.args.op

@@ -1,22 +1,14 @@
+use Rattle.std.proofs.Common.{sym, ◌∙◌, arith}
+use Rattle.std.specs.Int.{w64}
+use Rattle.std.proofs.lemmas.Int.{to_z-of_z}
 use Rattle.sums.proofs.Terms.{at_byte, shut-yes, shut-no}
-use Rattle.sums.specs.Code.{Past}
-use native.Mathlib.Omega.{arith}
-use mathlib.Core.Path.{sym, ◌∙◌, subst}
 use Rattle.sums.proofs.closed.Goals as goal
 
-pub returns-then-c-eq41 : goal.returns-then-c-eq41
-returns-then-c-eq41 c =
-    let args = c.args in
-    let p =
-    subst (Past args.s.now args.at) c.in-Value.is c.requires in (
-      shut-yes args.s.now args.inner _ _ c.in-Value.is (sym c.byte-c.ensures ∙ c.if-c-eq41.true),
-      (
-        omega arith,
-        omega (arith, at_byte args.s.now c.in-Value.n 40 (sym c.byte-c.ensures ∙ c.if-c-eq41.true)),
-      ),
-    )
+pub overflow_add-result : goal.overflow_add-result
+overflow_add-result c = omega (arith, at_byte c.args.s.now c.args.at 40 (sym c.byte.ensures ∙ c.if-byte-eq41.true))
 
-pub returns : goal.returns
-returns c =
-    let args = c.args in
-    (shut-no args.s.now args.inner _ _ c.in-Value.is (λ z. c.if-c-eq41.false (c.byte-c.ensures ∙ z)), tt)
+pub returns-then-byte-eq41 : goal.returns-then-byte-eq41
+returns-then-byte-eq41 c = (rw (to_z-of_z w64 c.args.v c.ranges.v) (shut-yes c.args.s.now c.args.v c.args.at (sym c.byte.ensures ∙ c.if-byte-eq41.true)), (omega arith, omega (arith, at_byte c.args.s.now c.args.at 40 (sym c.byte.ensures ∙ c.if-byte-eq41.true))))
+
+pub returns-else-byte-eq41 : goal.returns-else-byte-eq41
+returns-else-byte-eq41 c = (shut-no c.args.s.now c.args.v c.args.at (λ z. c.if-byte-eq41.false (c.byte.ensures ∙ z)), tt)

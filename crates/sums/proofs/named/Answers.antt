@@ -1,36 +1,28 @@
-use mathlib.Core.Path.{sym, ◌∙◌, ap}
-use Rattle.sums.specs.Reader.{got}
-use Rattle.sums.specs.Code.{value_read, of64}
-use Rattle.sums.proofs.Terms.{found_none, found_at, name-none, name-is, name-past}
-use Rattle.labels.proofs.Steps.{passed}
+use Rattle.std.proofs.Common.{sym, ap, ◌∙◌}
 use Rattle.labels.specs.Bytes.{is_part}
+use Rattle.labels.proofs.Steps.{passed}
+use Rattle.sums.specs.Reader.{got}
+use Rattle.sums.proofs.Differences.{kept}
+use Rattle.sums.proofs.Terms.{found_none, found_at, name-none, name-is, name-past}
 use Rattle.sums.proofs.named.Goals as goal
 
-pub returns-in_default : goal.returns-in_default
-returns-in_default c =
-    let args = c.args in (
-      name-none args.text.now args.table.now args.base _ (found_none _ _ (sym c.find.ensures ∙ c.in_default.is)),
-      tt,
-    )
+pub returns-in_err-index : goal.returns-in_err-index
+returns-in_err-index c =
+    let scope = c.args.scope in
+    rw c.from_residual.ensures (name-none scope.text.now scope.table.now scope.base _ (found_none _ _ (sym c.find.ensures ∙ c.in_err-index.was)), tt)
 
-pub returns-in_default-distance : goal.returns-in_default-distance
-returns-in_default-distance c =
-    let args = c.args in (
-      name-is args.text.now args.table.now args.base _ _ _
-          (found_at _ _ _ _ (sym c.find.ensures ∙ c.in-At.is)).0
-          (c.distance.ensures ∙ ap value_read c.in_default-distance.is),
-      tt,
-    )
+pub returns-in_err-v : goal.returns-in_err-v
+returns-in_err-v c =
+    let scope = c.args.scope in
+    let found = found_at _ _ _ _ (sym c.find.ensures ∙ c.in_ok-index.was) in
+    rw c.from_residual-in_err-v.ensures (name-is scope.text.now scope.table.now scope.base _ _ _ found.0 c.in_err-v.ensures, tt)
 
 pub returns : goal.returns
 returns c =
-    let args = c.args in
-    let f =
-    found_at _ _ _ _
-    (sym c.find.ensures ∙ c.in-At.is) in
-    let p = passed is_part args.s.now args.at _ f.1 in (
-      name-is args.text.now args.table.now args.base _ _ _ f.0
-          (c.distance.ensures ∙ ap value_read c.in-Of.is)
-          ∙ ap (got (of64 c.in-Of.v)) (sym p.rest),
-      name-past args.s.now args.at _ c.requires p,
+    let scope = c.args.scope in
+    let found = found_at _ _ _ _ (sym c.find.ensures ∙ c.in_ok-index.was) in
+    let p = passed is_part c.args.s.now c.args.at _ found.1 in
+    rw (kept _ _ c.in_ok-v.ensures) (
+      name-is scope.text.now scope.table.now scope.base _ _ _ found.0 c.in_ok-v.ensures ∙ ap (got c.in_ok-v.v) (sym p.rest),
+      name-past c.args.s.now c.args.at _ c.requires p,
     )

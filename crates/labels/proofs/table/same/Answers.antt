@@ -1,58 +1,24 @@
-use Rattle.labels.proofs.Steps.{compared-all, second-inside, compared-not, first-inside, compared-on}
-use Rattle.labels.proofs.Spans.{head-drop}
-use native.Mathlib.Omega.{arith}
+use Rattle.std.proofs.Common.{◌∙◌, sym, ap, ◌&&◌, ◌<◌, arith, length, drop, Bool, ℕ}
 use mathlib.Core.Bool.{not}
-use mathlib.Core.Path.{sym, ◌∙◌, ap}
+use Rattle.labels.specs.Bytes.{is_part, head_of}
+use Rattle.labels.proofs.Steps.{same-name, no-name}
 use Rattle.labels.proofs.table.same.Goals as goal
 
-pub returns-then-j-after : goal.returns-then-j-after
-returns-then-j-after c =
-    let args = c.args in
-    let loop = c.loop-j in
-    ap not c.part.ensures
-    ∙ compared-all args.text.now args.p args.s.now args.at args.after loop.i loop.j loop.invariant c.byte-a.result
-    c.byte-a.ensures c.if-j-after.true
+pub returns-then-starts_with : goal.returns-then-starts_with
+returns-then-starts_with c =
+    let rest = c.in-Some.rest.now in
+    ap not c.part.ensures ∙ ap (λ (b : ℕ). not (is_part b)) c.byte.ensures
+    ∙ ap (λ (x : Bool). x && not (is_part (head_of (drop (length c.args.name.now) rest)))) (sym c.if-starts_with.true ∙ c.starts_with.ensures.value)
+    ∙ same-name c.args.text.now c.args.name.now rest c.args.p c.requires c.in-Some.ensures.lookup.0.2
 
-pub bounds-s-j : goal.bounds-s-j
-bounds-s-j c =
-    let args = c.args in
-    let loop = c.loop-j in
-    second-inside args.text.now args.p args.s.now args.at args.after loop.i loop.j loop.invariant
-    c.byte-a.result c.byte-a.ensures c.if-j-after.false
+pub returns-else-starts_with : goal.returns-else-starts_with
+returns-else-starts_with c =
+    let rest = c.in-Some.rest.now in
+    c.if-starts_with.false
+    ∙ ap (λ (x : Bool). x && not (is_part (head_of (drop (length c.args.name.now) rest)))) (sym c.if-starts_with.false ∙ c.starts_with.ensures.value)
+    ∙ same-name c.args.text.now c.args.name.now rest c.args.p c.requires c.in-Some.ensures.lookup.0.2
 
-pub returns-then-a-s : goal.returns-then-a-s
-returns-then-a-s c =
-    let args = c.args in
-    let loop = c.loop-j in
-    compared-not args.text.now args.p args.s.now args.at args.after loop.i loop.j loop.invariant
-    c.byte-a.result c.byte-a.ensures c.if-j-after.false _
-    (sym (head-drop args.s.now loop.j)) c.if-a-s.true
-
-pub overflow_add-i : goal.overflow_add-i
-overflow_add-i c =
-    let args = c.args in
-    let loop = c.loop-j in
-    omega (
-      arith,
-      first-inside args.text.now args.p args.s.now args.at args.after loop.i loop.j loop.invariant
-          c.byte-a.result c.byte-a.ensures c.if-j-after.false _
-          (sym (head-drop args.s.now loop.j)) c.if-a-s.false,
-    )
-
-pub loop-j-smaller : goal.loop-j-smaller
-loop-j-smaller c =
-    let args = c.args in
-    let loop = c.loop-j in
-    omega (
-      arith,
-      second-inside args.text.now args.p args.s.now args.at args.after loop.i loop.j loop.invariant
-          c.byte-a.result c.byte-a.ensures c.if-j-after.false,
-    )
-
-pub loop-j-preserved : goal.loop-j-preserved
-loop-j-preserved c =
-    let args = c.args in
-    let loop = c.loop-j in
-    compared-on args.text.now args.p args.s.now args.at args.after loop.i loop.j loop.invariant
-    c.byte-a.result c.byte-a.ensures c.if-j-after.false _
-    (sym (head-drop args.s.now loop.j)) c.if-a-s.false
+pub returns-in-None : goal.returns-in-None
+returns-in-None c =
+    let past : length c.args.text.now < c.args.p = grind (arith, c.in-None.ensures.lookup.0) in
+    c.is_empty.ensures ∙ no-name c.args.text.now c.args.name.now c.args.p past

@@ -1,10 +1,9 @@
-use Rattle.labels.proofs.Steps.{head-end}
+use Rattle.std.proofs.Common.{arith, sym, ap, ◌∙◌}
+use Rattle.std.specs.Option.{unwrap_or}
 use Rattle.labels.proofs.Spans.{head-drop}
-use mathlib.Core.Path.{sym}
 use Rattle.labels.proofs.text.byte.Goals as goal
 
-pub returns-then-at-s : goal.returns-then-at-s
-returns-then-at-s c = sym (head-drop c.args.s.now c.args.at)
-
 pub returns : goal.returns
-returns c = head-end c.args.s.now c.args.at c.if-at-s.false
+returns c =
+    c.unwrap_or.ensures ∙ ap (λ o. unwrap_or o 0) c.copied.ensures ∙ c.get.ensures.lookup.4 (omega arith) 0
+    ∙ sym (head-drop c.args.s.now c.args.at)

@@ -12,10 +12,10 @@ returns-in-R c =
     let args = c.args in
     ap
     (λ (f : Form). saying_of
-    (word_for args.op (operands_read (kinds_of f) (labels_in args.text.now args.table.now args.own f) (drop args.at args.s.now))))
+    (word_for args.op (operands_read (kinds_of f) (labels_in args.scope.text.now args.scope.table.now args.scope.base f) (drop args.at args.s.now))))
     (sym c.form_of-f.ensures ∙ c.in-R.is)
     ∙ ap (λ (o : Option (List ℤ)). saying_of (word_for args.op o))
-    (three-any (look_in args.text.now args.table.now 0) (look_in [] [] 0) (drop args.at args.s.now))
+    (three-any (look_in args.scope.text.now args.scope.table.now 0) (look_in [] [] 0) (drop args.at args.s.now))
     ∙ c.three_registers.ensures
 
 pub returns-in-Alone : goal.returns-in-Alone
@@ -24,6 +24,6 @@ returns-in-Alone c =
     let args = c.args in
     ap
     (λ (f : Form). saying_of
-    (word_for args.op (operands_read (kinds_of f) (labels_in args.text.now args.table.now args.own f) (drop args.at args.s.now))))
+    (word_for args.op (operands_read (kinds_of f) (labels_in args.scope.text.now args.scope.table.now args.scope.base f) (drop args.at args.s.now))))
     (sym c.form_of-f.ensures ∙ c.in-Alone.is)
     ∙ c.nothing_more.ensures

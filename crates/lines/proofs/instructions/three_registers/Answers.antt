@@ -1,66 +1,43 @@
-use Rattle.lines.proofs.Words.{first-bad, first-got, last_none, last_some, none-word, some_word, parts-three}
-use Rattle.lines.specs.Code.{reg_seen}
-use Rattle.lines.specs.Lines.{register, parts}
+use Rattle.std.proofs.Common.{None, Some, [], ◌∷◌, drop, pos, ◌∙◌}
 use Rattle.sums.specs.Code.{look_in}
-use Rattle.std.proofs.Common.{None, Some, [], ◌∷◌, drop, pos, ap, ◌∙◌}
+use Rattle.lines.specs.Lines.{register, parts}
+use Rattle.lines.proofs.Words.{first-bad, first-got, last_none, last_some, none-word, some_word, parts-three}
 use Rattle.lines.proofs.instructions.three_registers.Goals as goal
 
-pub returns-in_default : goal.returns-in_default
-returns-in_default c =
-    let args = c.args in
-    none-word args.op _
-    (first-bad (look_in [] [] 0) register register (register ∷ []) (drop args.at args.s.now)
-    (c.register_comma.ensures.0 ∙ ap (reg_seen args.s.now) c.in_default.is))
+pub returns-in_err-a : goal.returns-in_err-a
+returns-in_err-a c =
+    rw c.from_residual.ensures
+    (none-word c.args.op _ (first-bad (look_in [] [] 0) register register (register ∷ []) (drop c.args.at c.args.s.now) c.in_err-a.ensures.0))
 
-pub returns-in_default-register_comma : goal.returns-in_default-register_comma
-returns-in_default-register_comma c =
-    let args = c.args in
-    let s = args.s.now in
+pub returns-in_err-b : goal.returns-in_err-b
+returns-in_err-b c =
+    let s = c.args.s.now in
     let look = look_in [] [] 0 in
-    none-word args.op _
-    (first-got look register register (register ∷ []) (drop args.at s) (pos c.in-Of.a)
-    (drop c.in-Of.m s) None
-    (c.register_comma.ensures.0 ∙ ap (reg_seen s) c.in-Of.is)
-    (first-bad look register register [] (drop c.in-Of.m s)
-    (c.register_comma-2.ensures.0 ∙ ap (reg_seen s) c.in_default-register_comma.is)))
+    rw c.from_residual-in_err-b.ensures
+    (none-word c.args.op _
+    (first-got look register register (register ∷ []) (drop c.args.at s) (pos c.in_ok-a.a) (drop c.in_ok-a.m s) None c.in_ok-a.ensures.0
+    (first-bad look register register [] (drop c.in_ok-a.m s) c.in_err-b.ensures.0)))
 
-pub returns-in_default-register_last : goal.returns-in_default-register_last
-returns-in_default-register_last c =
-    let args = c.args in
-    let s = args.s.now in
+pub returns-in_err-c : goal.returns-in_err-c
+returns-in_err-c c =
+    let s = c.args.s.now in
     let look = look_in [] [] 0 in
-    none-word args.op _
-    (first-got look register register (register ∷ []) (drop args.at s)
-    (pos c.in-Of.a)
-    (drop c.in-Of.m s) None
-    (c.register_comma.ensures.0
-    ∙ ap (reg_seen s) c.in-Of.is)
-    (first-got look register register [] (drop c.in-Of.m s)
-    (pos c.in-Of-register_comma.b) (drop c.in-Of-register_comma.n s) None
-    (c.register_comma-2.ensures.0 ∙ ap (reg_seen s) c.in-Of-register_comma.is)
-    (last_none look register (drop c.in-Of-register_comma.n s)
-    (c.register_last.ensures.0 ∙ ap (reg_seen s) c.in_default-register_last.is))))
+    rw c.from_residual-in_err-c.ensures
+    (none-word c.args.op _
+    (first-got look register register (register ∷ []) (drop c.args.at s) (pos c.in_ok-a.a) (drop c.in_ok-a.m s) None c.in_ok-a.ensures.0
+    (first-got look register register [] (drop c.in_ok-a.m s) (pos c.in_ok-b.b) (drop c.in_ok-b.n s) None c.in_ok-b.ensures.0
+    (last_none look register (drop c.in_ok-b.n s) c.in_err-c.ensures.0))))
 
 pub returns : goal.returns
 returns c =
-    let args = c.args in
-    let s = args.s.now in
+    let s = c.args.s.now in
     let look = look_in [] [] 0 in
-    let a = c.in-Of.a in
-    let b = c.in-Of-register_comma.b in
-    let d = c.in-Of-register_last.c in
-    some_word args.op _ (pos a ∷ (pos b ∷ (pos d ∷ []))) (parts args.op a b d 0)
-    (first-got look register register (register ∷ []) (drop args.at s) (pos a)
-    (drop c.in-Of.m s) (Some (pos b ∷ (pos d ∷ [])))
-    (c.register_comma.ensures.0
-    ∙ ap (reg_seen s) c.in-Of.is)
-    (first-got look register register []
-    (drop c.in-Of.m s) (pos b)
-    (drop c.in-Of-register_comma.n s) (Some (pos d ∷ []))
-    (c.register_comma-2.ensures.0
-    ∙ ap (reg_seen s) c.in-Of-register_comma.is)
-    (last_some look register (drop c.in-Of-register_comma.n s) (pos d) _
-    (c.register_last.ensures.0 ∙ ap (reg_seen s) c.in-Of-register_last.is))))
-    (parts-three args.op a b d
-    c.requires)
+    let x = pos c.in_ok-a.a in
+    let y = pos c.in_ok-b.b in
+    let z = pos c.in_ok-c.c in
+    some_word c.args.op _ (x ∷ (y ∷ (z ∷ []))) (parts c.args.op c.in_ok-a.a c.in_ok-b.b c.in_ok-c.c 0)
+    (first-got look register register (register ∷ []) (drop c.args.at s) x (drop c.in_ok-a.m s) (Some (y ∷ (z ∷ []))) c.in_ok-a.ensures.0
+    (first-got look register register [] (drop c.in_ok-a.m s) y (drop c.in_ok-b.n s) (Some (z ∷ [])) c.in_ok-b.ensures.0
+    (last_some look register (drop c.in_ok-b.n s) z _ c.in_ok-c.ensures.0)))
+    (parts-three c.args.op c.in_ok-a.a c.in_ok-b.b c.in_ok-c.c c.requires)
     ∙ c.word.ensures

@@ -1,75 +1,54 @@
-use Rattle.lines.proofs.Words.{first-bad, first-got, last_none, last_some, register-any, none-word, some_word, parts-two}
-use Rattle.lines.specs.Code.{reg_seen}
+use Rattle.std.proofs.Common.{None, Some, [], ◌∷◌, drop, pos, ◌∙◌, rules}
+use Rattle.sums.specs.Code.{look_in}
 use Rattle.lines.specs.Lines.{register, immediate, parts}
-use Rattle.sums.specs.Code.{look_in, of64, read_to}
-use Rattle.std.proofs.Common.{None, Some, [], ◌∷◌, drop, pos, ap, ◌∙◌}
+use Rattle.lines.proofs.Words.{first-bad, first-got, last_none, last_some, register-any, none-word, some_word, bits-of, parts-two}
 use Rattle.lines.proofs.instructions.two_and_number.Goals as goal
 
-pub returns-in_default : goal.returns-in_default
-returns-in_default c =
-    let args = c.args in
-    let s = args.s.now in
-    let look = look_in args.text.now args.table.now args.base in
-    none-word args.op _
-    (first-bad look register register (immediate ∷ []) (drop args.at s)
-    (register-any look (look_in [] [] 0) _ _ (c.register_comma.ensures.0 ∙ ap (reg_seen s) c.in_default.is)))
+pub returns-in_err-a : goal.returns-in_err-a
+returns-in_err-a c =
+    let scope = c.args.scope in
+    let look = look_in scope.text.now scope.table.now scope.base in
+    rw c.from_residual.ensures
+    (none-word c.args.op _
+    (first-bad look register register (immediate ∷ []) (drop c.args.at c.args.s.now) (register-any look (look_in [] [] 0) _ _ c.in_err-a.ensures.0)))
 
-pub returns-in_default-register_comma : goal.returns-in_default-register_comma
-returns-in_default-register_comma c =
-    let args = c.args in
-    let s = args.s.now in
-    let look = look_in args.text.now args.table.now args.base in
-    none-word args.op _
-    (first-got look register register (immediate ∷ []) (drop args.at s) (pos c.in-Of.a)
-    (drop c.in-Of.m s) None
-    (register-any look (look_in [] [] 0) _ _
-    (c.register_comma.ensures.0 ∙ ap (reg_seen s) c.in-Of.is))
-    (first-bad look register immediate [] (drop c.in-Of.m s)
-    (register-any look (look_in [] [] 0) _ _ (c.register_comma-2.ensures.0 ∙ ap (reg_seen s) c.in_default-register_comma.is))))
+pub returns-in_err-b : goal.returns-in_err-b
+returns-in_err-b c =
+    let s = c.args.s.now in
+    let scope = c.args.scope in
+    let look = look_in scope.text.now scope.table.now scope.base in
+    rw c.from_residual-in_err-b.ensures
+    (none-word c.args.op _
+    (first-got look register register (immediate ∷ []) (drop c.args.at s) (pos c.in_ok-a.a) (drop c.in_ok-a.m s) None
+    (register-any look (look_in [] [] 0) _ _ c.in_ok-a.ensures.0)
+    (first-bad look register immediate [] (drop c.in_ok-a.m s) (register-any look (look_in [] [] 0) _ _ c.in_err-b.ensures.0))))
 
-pub returns-in_default-number_last : goal.returns-in_default-number_last
-returns-in_default-number_last c =
-    let args = c.args in
-    let s = args.s.now in
-    let look = look_in args.text.now args.table.now args.base in
-    none-word args.op _
-    (first-got look register register (immediate ∷ []) (drop args.at s)
-    (pos c.in-Of.a)
-    (drop c.in-Of.m s) None
-    (register-any look (look_in [] [] 0) _ _
-    (c.register_comma.ensures.0
-    ∙ ap (reg_seen s) c.in-Of.is))
-    (first-got look register immediate [] (drop c.in-Of.m s)
-    (pos c.in-Of-register_comma.b) (drop c.in-Of-register_comma.n s) None
-    (register-any look (look_in [] [] 0) _ _
-    (c.register_comma-2.ensures.0 ∙ ap (reg_seen s) c.in-Of-register_comma.is))
-    (last_none look immediate (drop c.in-Of-register_comma.n s)
-    (c.number_last.ensures ∙ ap (read_to s) c.in_default-number_last.is))))
+pub returns-in_err-v : goal.returns-in_err-v
+returns-in_err-v c =
+    let s = c.args.s.now in
+    let scope = c.args.scope in
+    let look = look_in scope.text.now scope.table.now scope.base in
+    rw c.from_residual-in_err-v.ensures
+    (none-word c.args.op _
+    (first-got look register register (immediate ∷ []) (drop c.args.at s) (pos c.in_ok-a.a) (drop c.in_ok-a.m s) None
+    (register-any look (look_in [] [] 0) _ _ c.in_ok-a.ensures.0)
+    (first-got look register immediate [] (drop c.in_ok-a.m s) (pos c.in_ok-b.b) (drop c.in_ok-b.n s) None
+    (register-any look (look_in [] [] 0) _ _ c.in_ok-b.ensures.0)
+    (last_none look immediate (drop c.in_ok-b.n s) c.in_err-v.ensures))))
 
 pub returns : goal.returns
 returns c =
-    let args =
-    c.args in
-    let s = args.s.now in
-    let look = look_in args.text.now args.table.now args.base in
-    let a = c.in-Of.a in
-    let b = c.in-Of-register_comma.b in
-    let v = of64 c.in-Value.v in
-    some_word args.op _ (pos a ∷ (pos b ∷ (v ∷ []))) (parts args.op a b 0 c.bits.result)
-    (first-got look register register (immediate ∷ []) (drop args.at s) (pos a)
-    (drop c.in-Of.m s) (Some (pos b ∷ (v ∷ [])))
-    (register-any look (look_in [] [] 0) _ _
-    (c.register_comma.ensures.0
-    ∙ ap (reg_seen s) c.in-Of.is))
-    (first-got look register immediate []
-    (drop c.in-Of.m s) (pos b)
-    (drop c.in-Of-register_comma.n s) (Some (v ∷ []))
-    (register-any look (look_in [] [] 0) _ _
-    (c.register_comma-2.ensures.0
-    ∙ ap (reg_seen s) c.in-Of-register_comma.is))
-    (last_some look immediate (drop c.in-Of-register_comma.n s) v _
-    (c.number_last.ensures ∙ ap (read_to s) c.in-Value.is))))
-    (parts-two args.op a b v c.bits.result
-    c.requires
-    c.bits.ensures)
+    let s = c.args.s.now in
+    let scope = c.args.scope in
+    let look = look_in scope.text.now scope.table.now scope.base in
+    let x = pos c.in_ok-a.a in
+    let y = pos c.in_ok-b.b in
+    let v = c.in_ok-v.v in
+    some_word c.args.op _ (x ∷ (y ∷ (v ∷ []))) (parts c.args.op c.in_ok-a.a c.in_ok-b.b 0 c.cast_unsigned.result)
+    (first-got look register register (immediate ∷ []) (drop c.args.at s) x (drop c.in_ok-a.m s) (Some (y ∷ (v ∷ [])))
+    (register-any look (look_in [] [] 0) _ _ c.in_ok-a.ensures.0)
+    (first-got look register immediate [] (drop c.in_ok-a.m s) y (drop c.in_ok-b.n s) (Some (v ∷ []))
+    (register-any look (look_in [] [] 0) _ _ c.in_ok-b.ensures.0)
+    (last_some look immediate (drop c.in_ok-b.n s) v _ c.in_ok-v.ensures)))
+    (parts-two c.args.op c.in_ok-a.a c.in_ok-b.b v c.cast_unsigned.result c.requires (bits-of v _ (search rules) c.cast_unsigned.ensures))
     ∙ c.word.ensures

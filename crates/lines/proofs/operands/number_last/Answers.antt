@@ -2,28 +2,31 @@ use Rattle.labels.proofs.Steps.{passed}
 use Rattle.labels.specs.Bytes.{is_space}
 use Rattle.lines.proofs.Steps.{last-bad, last-no, last-yes, operand-sum}
 use Rattle.lines.specs.Lines.{immediate}
-use Rattle.sums.specs.Code.{read_to, of64}
-use Rattle.std.proofs.Common.{ap, ◌∙◌}
+use Rattle.std.proofs.Common.{rules}
+use Rattle.std.specs.Int.{w64}
+use Rattle.std.proofs.lemmas.Int.{to_z-of_z}
 use Rattle.lines.proofs.operands.number_last.Goals as goal
 
-pub returns-in_default : goal.returns-in_default
-returns-in_default c =
+pub returns-in_err-v : goal.returns-in_err-v
+returns-in_err-v c =
     let args = c.args in
-    last-bad immediate _ args.s.now args.at _ (passed is_space _ _ _ c.skip.ensures)
-    (operand-sum _ _ _ (c.sum.ensures.0 ∙ ap (read_to args.s.now) c.in_default.is))
+    rw c.from_residual.ensures
+    (last-bad immediate _ args.s.now args.at _ (passed is_space _ _ _ c.skip.ensures)
+    (operand-sum _ _ _ c.in_err-v.ensures.0))
 
 pub returns-then-n-s : goal.returns-then-n-s
 returns-then-n-s c =
     let args = c.args in
     last-no immediate _ args.s.now args.at _ (passed is_space _ _ _ c.skip.ensures)
-    (of64 c.in-Value.v) c.in-Value.n
-    (operand-sum _ _ _ (c.sum.ensures.0 ∙ ap (read_to args.s.now) c.in-Value.is))
+    c.in_ok-v.v c.in_ok-v.n
+    (operand-sum _ _ _ c.in_ok-v.ensures.0)
     c.if-n-s.true
 
-pub returns : goal.returns
-returns c =
+pub returns-else-n-s : goal.returns-else-n-s
+returns-else-n-s c =
     let args = c.args in
-    last-yes immediate _ args.s.now args.at _ (passed is_space _ _ _ c.skip.ensures)
-    (of64 c.in-Value.v) c.in-Value.n
-    (operand-sum _ _ _ (c.sum.ensures.0 ∙ ap (read_to args.s.now) c.in-Value.is))
-    c.if-n-s.false
+    rw (to_z-of_z w64 c.in_ok-v.v (search rules))
+    (last-yes immediate _ args.s.now args.at _ (passed is_space _ _ _ c.skip.ensures)
+    c.in_ok-v.v c.in_ok-v.n
+    (operand-sum _ _ _ c.in_ok-v.ensures.0)
+    c.if-n-s.false)

@@ -5,7 +5,7 @@ use Rattle.labels.proofs.Steps.{class-inside}
 use Rattle.labels.proofs.Spans.{inside}
 use Rattle.labels.specs.Bytes.{head_of, is_digit}
 use Rattle.sums.specs.Reader.{got}
-use Rattle.std.proofs.Common.{ℕ, ◌+◌, ◌-◌, drop, pos, sym, refl, ap, ◌∙◌, arith}
+use Rattle.std.proofs.Common.{◌≡◌, ℕ, ◌+◌, ◌-◌, drop, pos, sym, refl, ap, ◌∙◌, arith}
 use Rattle.lines.proofs.operands.register.Goals as goal
 
 pub returns-then-c-ne82 : goal.returns-then-c-ne82
@@ -27,14 +27,15 @@ returns-then-teen c =
     let args = c.args in
     let b =
     two-bounds c.byte-a.result c.byte-b.result
-    (sym c.teen.ensures ∙ c.if-teen.true) in (
+    (sym c.teen.ensures ∙ c.if-teen.true) in
+    let number : head_of (drop (args.at + 2) args.s.now) - 38 ≡ 10 + (c.byte-b.result - 48) = let same = c.byte-b.ensures in omega arith in (
       reg-two args.s.now args.at
           (sym c.byte-c.ensures ∙ c.if-c-ne82.false)
           (ap (λ (x : ℕ). is_two x (head_of (drop (args.at + 2) args.s.now))) (sym c.byte-a.ensures)
           ∙ ap (is_two c.byte-a.result) (sym c.byte-b.ensures)
           ∙ sym c.teen.ensures
           ∙ c.if-teen.true)
-          ∙ ap (λ (x : ℕ). got (pos (x - 38)) (drop (args.at + 3) args.s.now)) (sym c.byte-b.ensures),
+          ∙ ap (λ (x : ℕ). got (pos x) (drop (args.at + 3) args.s.now)) number,
       omega (arith, inside args.s.now (args.at + 2) (λ z. let e = c.byte-b.ensures ∙ z in omega arith)),
     )
 

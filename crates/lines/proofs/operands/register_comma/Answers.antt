@@ -7,13 +7,14 @@ use Rattle.sums.specs.Code.{look_in}
 use Rattle.sums.proofs.Terms.{at_byte}
 use Rattle.lines.proofs.operands.register_comma.Goals as goal
 
-pub returns-in_default : goal.returns-in_default
-returns-in_default c =
-    let args = c.args in (
+pub returns-in_err-r : goal.returns-in_err-r
+returns-in_err-r c =
+    let args = c.args in
+    rw c.from_residual.ensures (
       comma-bad register (look_in [] [] 0) args.s.now args.at c.skip.result
           (passed is_space _ _ _ c.skip.ensures)
           (operand-bad (look_in [] [] 0) args.s.now c.skip.result c.register.result
-          c.register.ensures.0 c.in_default.is),
+          c.register.ensures.0 c.in_err-r.was),
       tt,
     )
 
@@ -32,20 +33,20 @@ returns-then-byte-eq44 c =
           (passed is_space _ _ _ c.skip.ensures) _ c.skip-n.result
           (operand-reg (look_in [] [] 0) args.s.now c.skip.result
           c.register.result c.register.ensures.0
-          _ _ c.skip-n.result c.in-Of.is
+          _ _ c.skip-n.result c.in_ok-r.was
           (passed is_space _ _ _ c.skip-n.ensures))
           (sym c.byte.ensures ∙ c.if-byte-eq44.true),
       omega (arith, at_byte args.s.now c.skip-n.result 43 (sym c.byte.ensures ∙ c.if-byte-eq44.true)),
     )
 
-pub returns : goal.returns
-returns c =
+pub returns-else-byte-eq44 : goal.returns-else-byte-eq44
+returns-else-byte-eq44 c =
     let args = c.args in (
       comma-no register (look_in [] [] 0) args.s.now args.at c.skip.result
           (passed is_space _ _ _ c.skip.ensures) _ c.skip-n.result
           (operand-reg (look_in [] [] 0) args.s.now c.skip.result
           c.register.result c.register.ensures.0
-          _ _ c.skip-n.result c.in-Of.is
+          _ _ c.skip-n.result c.in_ok-r.was
           (passed is_space _ _ _ c.skip-n.ensures))
           (λ z. c.if-byte-eq44.false (c.byte.ensures ∙ z)),
       tt,
