@@ -1,6 +1,6 @@
 -- Inner: pending checks with their answers in bytes, for the comparison.
 use Rattle.refusal.specs.declared.Refusal.{Refusal}
-use Rattle.std.specs.Prelude.{Err, Ok, Result, ℕ, List}
+use Rattle.std.specs.Prelude.{None, Option, Some, Err, Ok, Result, ℕ, List}
 use Rattle.refusal.specs.Stops.{number_of}
 use Rattle.pending.specs.declared.Entry.{Entry}
 use Rattle.exports.specs.declared.triple.Triple.{Triple}
