@@ -70,10 +70,6 @@ module _ (N : Notes) (p : Parts) (Rs : Registers) where
   pub two-add : eqb (opcode_number p.op) (opcode_number O.Add) ≡ true → limbed true (added N p.a p.b p.c Rs) ≡ limbs_if (is_registers (form_of p.op)) N (instruction_of p) Rs
   two-add e = rw e at (limbs-of-two N p Rs)
 
-  pub two-sub : eqb (opcode_number p.op) (opcode_number O.Add) ≡ false → eqb (opcode_number p.op) (opcode_number O.Sub) ≡ true
-      → limbs N (Sub p.a p.b p.c) Rs ≡ limbs_if (is_registers (form_of p.op)) N (instruction_of p) Rs
-  two-sub e f = rw (e, f) at (limbs-of-two N p Rs)
-
   pub two_none : eqb (opcode_number p.op) (opcode_number O.Add) ≡ false → eqb (opcode_number p.op) (opcode_number O.Sub) ≡ false
       → limbed false Rs ≡ limbs_if (is_registers (form_of p.op)) N (instruction_of p) Rs
   two_none e f = rw (e, f) at (limbs-of-two N p Rs)

@@ -1,11 +1,9 @@
 -- The cases of the functions of normalize.rs, from what the code tests and calls.
 use Prim.Native.Nat.{ℕ, ◌+◌, ◌*◌, ◌%◌, ◌^◌, ◌<◌, ◌≤◌}
-use mathlib.Core.Path.{◌≡◌, refl}
-use mathlib.Core.Bool.{Bool, true, false, cond, ◌||◌}
-use native.Mathlib.Omega.{arith}
-use lib.Dec.{leb}
+use mathlib.Core.Path.{◌≡◌}
+use mathlib.Core.Bool.{Bool, true, false, cond}
 use lib.ListN.{get_or}
-use borrow.Author.Tests.{lt-ltb, le-ltb, ne_eqb, leb-false}
+use borrow.Author.Tests.{lt-ltb, le-ltb, ne_eqb}
 use Rattle.state.specs.Held.{low_of, high_of, waits, kept}
 use Rattle.state.specs.declared.registers.Registers.{Registers}
 use Rattle.state.specs.Registers.{holds, noted, place}
@@ -67,11 +65,3 @@ module _ (s : State) (n : ℕ) where
         → normalized_to r t ≡ normalize_and_write s n low high
     unfolding normalize_and_write
     write_done r t h z e p q = rw (lt-ltb n 16 h, ne_eqb n 0 z, e, q, p)
-
-pub none-large : (low high : ℕ) → would_overflow low high ≡ false → (low < 2 ^ 30) × (high < 2 ^ 30)
-none-large low high e = both (leb (2 ^ 30) low) (leb (2 ^ 30) high) refl refl e
-  where
-    both : (t u : Bool) → leb (2 ^ 30) low ≡ t → leb (2 ^ 30) high ≡ u → (t || u) ≡ false → (low < 2 ^ 30) × (high < 2 ^ 30)
-    both true u p q z = let n : ◌≡◌ {A = ℕ} 0 1 = cc in absurd (omega arith)
-    both false true p q z = let n : ◌≡◌ {A = ℕ} 0 1 = cc in absurd (omega arith)
-    both false false p q z = (leb-false _ _ p, leb-false _ _ q)
