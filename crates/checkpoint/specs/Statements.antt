@@ -17,7 +17,7 @@ OneMachine =
 -- And so are their states. `Shaped` says that a state has sixteen registers, in numbers of 64 and of 8 bits.
 abbrev pub OneState : Type 0
 OneState =
-    (s s' : State) (m m' : List ℕ) → Shaped s → Shaped s' → well_formed s.registers ≡ true → well_formed (s.registers') ≡ true
+    (s s' : State) (m m' : List ℕ) → Shaped s → Shaped s' → well_formed s.registers ≡ true → well_formed s'.registers ≡ true
     → memory_fits (length m) ≡ true → length m ≡ length m' → image_of (state_bytes s) m ≡ image_of (state_bytes s') m' → (s ≡ s') × (m ≡ m')
 
 -- "Writing, then reading into memory of the same length, restores state and memory exactly": whatever a reading leaves of the n bytes that

@@ -96,7 +96,8 @@ fn both(a: bool, b: bool) -> bool
     if a { b } else { false }
 }
 
-// A caller that has tested the length gets the numbers by one load each.
+// A caller that has tested the length gets the numbers by one load each. Three arrays, put together at the end: where the struct is
+// filled in place, the compiler makes a slower loop of a run.
 pub fn read(bytes: &[u8]) -> Reading
     ensures { result ≡ read_in bytes.now }
 {
