@@ -1,7 +1,6 @@
 -- Each public function, in the order of crates.txt: two outcomes that its own contract allows are one. The name of a law is the function's,
 -- crate·module·function, and `tools/promises` holds this list to the source.
 use mathlib.Core.Path.{refl, ap}
-use mathlib.Core.List.{[]}
 use Rattle.encoding.proofs as encoding
 use Rattle.encoding.specs.contracts as encoding_says
 use Rattle.value.proofs as value
@@ -68,6 +67,8 @@ use Rattle.checkpoint.proofs as checkpoint
 use Rattle.checkpoint.specs.contracts as checkpoint_says
 use Rattle.checkpoint.proofs.Laws.{reads-one}
 use Rattle.checkpoint.specs.Calls.{Wrote}
+use Rattle.std.specs.Prelude.{Result}
+use Rattle.refusal.specs.declared.Refusal.{Refusal}
 use Rattle.state.specs.declared.registers.Registers.{Registers}
 use Rattle.deferred.specs.Limbs.{Limbed}
 use Rattle.execute.specs.World.{Stepped}

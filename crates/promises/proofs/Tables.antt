@@ -5,11 +5,13 @@ use mathlib.Core.Path.{◌≡◌, refl, sym, ap, ◌∙◌}
 use mathlib.Core.Bool.{Bool, true, false, cond}
 use mathlib.Core.List.{List, []}
 use lib.Dec.{eqb}
+use Rattle.std.specs.Prelude.{Err, Ok, Result}
+use Rattle.refusal.specs.declared.Refusal.{Refusal}
 use Rattle.opcode.specs.Opcodes.{form_of}
 use Rattle.opcode.specs.declared.Opcode.{Opcode}
 use Rattle.effect.specs.Outcomes.{Outcome, Does, Refuses}
 use Rattle.effect.specs.Effects.{Seen}
-use Rattle.effect.specs.Tables.{Where, is_registers, is_immediate, is_shift, deed_outcome, turn_outcome, DecidesTwo, DecidesOne, DecidesShift}
+use Rattle.effect.specs.Tables.{Where, is_registers, is_immediate, is_shift, deed_outcome, turn, turn_outcome, DecidesTwo, DecidesOne, DecidesShift}
 use Rattle.effect.specs.declared.registers.Operands.{Operands}
 use Rattle.effect.specs.declared.registers.Deed.{Deed}
 use Rattle.effect.specs.declared.registers.Deed.TheVariants as D
@@ -62,4 +64,6 @@ one-turn op o m r s = of_either (DecidesOne op o m) (is_immediate (form_of op)) 
 
 pub one_shift : (op : Opcode) (o : Source) (r s : Turn) → Where (is_shift (form_of op)) (DecidesShift op o (Ok r)) (r ≡ turn 0 0 0)
     → Where (is_shift (form_of op)) (DecidesShift op o (Ok s)) (s ≡ turn 0 0 0) → r ≡ s
-one_shift op o r s = of_either (DecidesShift op o) (is_shift (form_of op)) (T.Writes 0 0 0) r s (λ p q. turns-alike op o [] r s (p []) (q []))
+one_shift op o r s =
+    of_either (λ (t : Turn). DecidesShift op o (Ok t)) (is_shift (form_of op)) (turn 0 0 0) r s
+    (λ p q. let e : ◌≡◌ {A = Result Turn Refusal} (Ok r) (Ok s) = turns-alike op o [] (Ok r) (Ok s) (p []) (q []) in cc)
