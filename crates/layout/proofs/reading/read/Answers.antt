@@ -21,9 +21,9 @@ loop-i-preserved c =
     let b = c.args.bytes.now in
     let l = c.loop-i in
     let parts = c.parts_at-p.ensures in (
-      sym (table_more l.registers.values 16 l.i (λ k. kept (held_in b k)) (omega arith) (c.kept_by.ensures ∙ rw parts)) ∙ l.invariant.0,
-      sym (table_more l.registers.accumulated 16 l.i (λ k. waits (held_in b k)) (omega arith) (rw parts (waits-by _ _ _))) ∙ l.invariant.1,
-      sym (table_more l.registers.bounds 16 l.i (bound_in b) (omega arith) (rw parts)) ∙ l.invariant.2,
+      sym (table_more l.values 16 l.i (λ k. kept (held_in b k)) (omega arith) (c.kept_by.ensures ∙ rw parts)) ∙ l.invariant.0,
+      sym (table_more l.accumulated 16 l.i (λ k. waits (held_in b k)) (omega arith) (rw parts (waits-by _ _ _))) ∙ l.invariant.1,
+      sym (table_more l.bounds 16 l.i (bound_in b) (omega arith) (rw parts)) ∙ l.invariant.2,
       c.both-laid.ensures ∙ rw (c.parts_laid.ensures, parts, l.invariant.3) (all-next (record_laid b) l.i _),
     )
 
@@ -38,8 +38,8 @@ returns c =
       c.together-state.ensures,
       c.number_at-pc.ensures,
       c.number_at-halted.ensures,
-      filled 16 l.registers.values (replicate 16 0) l.i (λ k. kept (held_in b k)) (omega arith) refl l.invariant.0,
-      filled 16 l.registers.accumulated (replicate 16 false) l.i (λ k. waits (held_in b k)) (omega arith) refl l.invariant.1,
-      filled 16 l.registers.bounds (replicate 16 0) l.i (bound_in b) (omega arith) refl l.invariant.2,
+      filled 16 l.values (replicate 16 0) l.i (λ k. kept (held_in b k)) (omega arith) refl l.invariant.0,
+      filled 16 l.accumulated (replicate 16 false) l.i (λ k. waits (held_in b k)) (omega arith) refl l.invariant.1,
+      filled 16 l.bounds (replicate 16 0) l.i (bound_in b) (omega arith) refl l.invariant.2,
       laid,
     )

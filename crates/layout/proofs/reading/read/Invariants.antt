@@ -9,7 +9,7 @@ use Rattle.layout.proofs.reading.read.Given as goal
 
 abbrev pub invariant-loop-i : goal.invariant-loop-i
 invariant-loop-i l =
-    (sets l.registers.values l.i (table (16 - l.i) l.i (λ k. kept (held_in l.bytes k))) ≡ sets l.initial.registers.values 0 (table 16 0 (λ k. kept (held_in l.bytes k))))
-    × (sets l.registers.accumulated l.i (table (16 - l.i) l.i (λ k. waits (held_in l.bytes k))) ≡ sets l.initial.registers.accumulated 0 (table 16 0 (λ k. waits (held_in l.bytes k))))
-    × (sets l.registers.bounds l.i (table (16 - l.i) l.i (bound_in l.bytes)) ≡ sets l.initial.registers.bounds 0 (table 16 0 (bound_in l.bytes)))
+    (sets l.values l.i (table (16 - l.i) l.i (λ k. kept (held_in l.bytes k))) ≡ sets l.initial.values 0 (table 16 0 (λ k. kept (held_in l.bytes k))))
+    × (sets l.accumulated l.i (table (16 - l.i) l.i (λ k. waits (held_in l.bytes k))) ≡ sets l.initial.accumulated 0 (table 16 0 (λ k. waits (held_in l.bytes k))))
+    × (sets l.bounds l.i (table (16 - l.i) l.i (bound_in l.bytes)) ≡ sets l.initial.bounds 0 (table 16 0 (bound_in l.bytes)))
     × (l.laid ≡ (all_below (record_laid l.bytes) l.i && l.initial.laid))
