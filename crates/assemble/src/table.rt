@@ -26,9 +26,7 @@ impl<'a> Labels<'a> {
     // Four bytes an instruction; no text has so many that this wraps.
     pub fn value_of(self, name: &[u8]) -> Option<i64> {
         match find(self.text, self.table, name, 0) {
-            Some((index, _)) => Some(
-                index.wrapping_sub(self.base).wrapping_mul(4).cast_signed(),
-            ),
+            Some((index, _)) => Some(index.wrapping_sub(self.base).wrapping_mul(4).cast_signed()),
             None => None,
         }
     }

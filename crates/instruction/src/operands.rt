@@ -3,7 +3,10 @@ ghost use Rattle.std.specs.Prelude.{◌≡◌};
 ghost use Rattle.instruction.specs.Operands.{instruction_of, parts_of, three, two, of_division, of_operation, of_imm_operation, of_move, of_load, of_store, of_branch};
 ghost use Rattle.instruction.specs.Kinds.{division_of, operation_of, imm_operation_of, move_kind_of, load_kind_of, store_kind_of, branch_kind_of};
 
-use super::{BranchKind, Division, ImmOperation, Instruction, LoadKind, MoveKind, Operation, Parts, StoreKind};
+use super::{
+    BranchKind, Division, ImmOperation, Instruction, LoadKind, MoveKind, Operation, Parts,
+    StoreKind,
+};
 use opcode::Opcode;
 
 fn division(op: Opcode) -> Division
