@@ -34,6 +34,7 @@ pub(crate) const LEAST: usize = TABLE_BYTES + STATE_BYTES;
 
 pub(crate) const MORE: usize = ENTRY_BYTES + BODY_BYTES;
 
+// Five contracts ask for it. A struct with it as an invariant would be two, lent to be read and to be written, for one clause.
 #[tactic(auto, unfolding(crate::specs::Calls::memory_fits))]
 fn memory_fits(len: usize) -> bool
     ensures { result ≡ memory_fits len }

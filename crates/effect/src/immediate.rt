@@ -57,6 +57,7 @@ fn loaded(o: Source, l: Result<u64, Refusal>, bound: u8) -> Result<Turn, Refusal
     Ok(writes(o, l?, bound))
 }
 
+// Signed loads, one for each size: the types that they extend and the calls that do it are others, so one function would take both.
 #[tactic(auto, unfolding(crate::specs::Effects::on_loaded, crate::specs::Operations::loaded))]
 fn loaded_8(o: Source, l: Result<u64, Refusal>) -> Result<Turn, Refusal>
     ensures { Turns result (λ rd. on_loaded (λ v. writes rd (loaded K.Lb v) 8 (plus64 o.pc 4)) l) }

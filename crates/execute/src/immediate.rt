@@ -1,4 +1,5 @@
-// The instructions on a register and an immediate: Addi on limbs where the mode has that form, and all on whole values.
+// The instructions on a register and an immediate: Addi on limbs where the mode has that form, and all on whole values. The steps
+// are those of registers.rt, over other types, tables and laws: a trait of them would have a member for each and be met once by each.
 ghost use Rattle.std.specs.Prelude.{◌≡◌};
 ghost use Rattle.opcode.specs.Opcodes.{form_of};
 ghost use Rattle.opcode.specs.declared.Form.TheVariants as F;

@@ -18,6 +18,7 @@ mod registers; // registers.rt: two registers
 mod store; // store.rt: the stores
 pub mod word; // word.rt: a word obeyed by its form
 
+// Data, and no type parameter or closure, which would make a second copy of a run's loop.
 #[derive(Clone, Copy)]
 pub enum Mode {
     Plain,

@@ -1,4 +1,5 @@
 // The table of labels: three numbers a label, found by its name's key. C lends it as numbers, so a slot is three of them and no struct.
+// The text is lent beside it, and no struct holds both: noting writes the table alone.
 ghost use Rattle.std.specs.Prelude.{◌≡◌, ◌≢◌, ◌&&◌, ◌+◌, ◌<◌, eqb, length, true};
 ghost use Rattle.labels.specs.Bytes.{is_part, every, eq_bytes, key_of};
 ghost use Rattle.labels.specs.Reading.{name_at};

@@ -24,7 +24,8 @@ pub enum Start {
     Other,
 }
 
-// What a line says: nothing, its label, an instruction's word, or what is wrong.
+// What a line says: nothing, its label, an instruction's word, or what is wrong. Four answers that each caller tells apart, the last
+// of them no error to pass on: so no Result.
 #[derive(Clone, Copy)]
 pub enum Said {
     Blank,

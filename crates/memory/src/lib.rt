@@ -18,6 +18,7 @@ pub enum Size {
     Double,
 }
 
+// Three answers, none with a value. A load, a store and a fetch each have refusals of their own for the last two, so it is no Result.
 #[derive(Clone, Copy)]
 pub enum Access {
     Served,

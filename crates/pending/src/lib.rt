@@ -13,7 +13,7 @@ pub struct Check {
     pub value: u64,
 }
 
-// How many checks more a list takes; any number where none is lent.
+// How many checks more a list takes; any number where none is lent. No Option: its `None` would read as no room.
 #[derive(Clone, Copy)]
 pub enum Room {
     Unlent,

@@ -1,4 +1,5 @@
-// Division of all 64 bits. The caller refuses a divisor of 0 first; here it answers as the definitions do.
+// Division of all 64 bits. The caller refuses a divisor of 0 first; here it answers as the definitions do. Signed and
+// unsigned division are other operators, so the pairs stay pairs.
 ghost use Rattle.std.specs.Prelude.{◌≡◌, ◌-◌, ◌^◌, true, false, ◌≢◌};
 ghost use Rattle.value.specs.Division.{div_of, rem_of, divu_of, remu_of};
 

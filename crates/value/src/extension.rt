@@ -1,4 +1,5 @@
-// Fields with their signs at 64 bits: a loaded byte and halfword, an immediate of 17 bits, an offset of 21.
+// Fields with their signs at 64 bits: a loaded byte and halfword, an immediate of 17 bits, an offset of 21. What they share is
+// `extend`; each takes the type that its field is read in.
 ghost use Rattle.std.specs.Prelude.{◌≡◌, ◌-◌, ◌/◌, ◌%◌, ◌^◌, ◌<◌};
 ghost use Rattle.encoding.specs.Fields.{signed_of, extended};
 
