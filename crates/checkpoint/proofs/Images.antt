@@ -13,12 +13,12 @@ use Rattle.layout.specs.Layout.{STATE_BYTES, well_laid, admissible}
 use Rattle.memory.proofs.Numbers.{Small}
 use Rattle.layout.proofs.Tests.{both}
 use Rattle.checkpoint.specs.Image.{Part, entries_of, bodies_of, image_of_parts, state_part, PAGE_BYTES, all_zero, page_part, page_parts, pages_of, image_of}
-use Rattle.checkpoint.specs.Pages.{BODY_BYTES, held, body, bodies, entry, entries, table_bytes, table_of}
+use Rattle.checkpoint.specs.Pages.{BODY_BYTES, held, body, bodies, table_entry, entries, table_bytes, table_of}
 use Rattle.checkpoint.specs.Tests.{fill_pages, memory_from, LEAST, MORE, pages_in, state_at, bodies_at, passes}
 use Rattle.checkpoint.proofs.Pages.{page-long, rest-long, held-le, length-bytes-8, bodies-long, bodies-fill, memory-long, filled-bodies}
 
-pub length-entry : (k o s : ℕ) → length (entry k o s) ≡ 12
-unfolding entry bytes
+pub length-entry : (k o s : ℕ) → length (table_entry k o s) ≡ 12
+unfolding table_entry bytes
 length-entry k o s = refl
 
 pub length-entries : (n o : ℕ) → length (entries n o) ≡ 12 * n
@@ -63,8 +63,8 @@ page-bodies (suc n) at m = by (all_zero (take PAGE_BYTES m)) _ _ _ (page-bodies 
     by false p ps bs e = ap (λ (l : List ℕ). p.body ++ l) e
 
 entry_first : (offset : ℕ) (p : Part) (ps : List Part) (size : ℕ) → length p.body ≡ size
-    → entries_of offset (p ∷ ps) ≡ entry p.kind offset size ++ entries_of (offset + size) ps
-unfolding entries_of entry
+    → entries_of offset (p ∷ ps) ≡ table_entry p.kind offset size ++ entries_of (offset + size) ps
+unfolding entries_of table_entry
 entry_first offset p ps size e = rw e (simp append_assoc)
 
 page-entries : (n at : ℕ) (m : List ℕ) (offset : ℕ) → length m ≡ PAGE_BYTES * n → entries_of offset (page_parts n at m) ≡ entries (held n m) offset
@@ -82,7 +82,7 @@ page-entries (suc n) at m offset l = by (all_zero (take PAGE_BYTES m)) _ _ (λ o
         rw none (e offset)
     by false ps k e =
         let one : 1 + k ≡ suc k = omega arith in
-        rw one (entry_first offset (page_part at (take PAGE_BYTES m)) ps BODY_BYTES size ∙ ap (λ (l : List ℕ). entry 2 offset BODY_BYTES ++ l) (e (offset + BODY_BYTES)))
+        rw one (entry_first offset (page_part at (take PAGE_BYTES m)) ps BODY_BYTES size ∙ ap (λ (l : List ℕ). table_entry 2 offset BODY_BYTES ++ l) (e (offset + BODY_BYTES)))
 
 laid_out : (n : ℕ) (b bs : List ℕ) (ps : List Part) → length b ≡ STATE_BYTES → length ps ≡ n → bodies_of ps ≡ bs
     → ((offset : ℕ) → entries_of offset ps ≡ entries n offset) → image_of_parts (state_part b ∷ ps) ≡ table_of n ++ (b ++ bs)
@@ -90,7 +90,7 @@ unfolding image_of_parts bodies_of table_of
 laid_out n b bs ps size count has lists =
     let o : 4 + 12 * suc n ≡ table_bytes n = omega arith in
     let c : suc n ≡ n + 1 = omega arith in
-    let table : entries_of (table_bytes n) (state_part b ∷ ps) ≡ entry 1 (table_bytes n) STATE_BYTES ++ entries n (table_bytes n + STATE_BYTES) =
+    let table : entries_of (table_bytes n) (state_part b ∷ ps) ≡ table_entry 1 (table_bytes n) STATE_BYTES ++ entries n (table_bytes n + STATE_BYTES) =
     entry_first (table_bytes n) (state_part b) ps STATE_BYTES size ∙ rw lists
     in
     rw (count, o, c, table, has) (sym (append_assoc (bytes 4 (n + 1)) _ _))

@@ -13,7 +13,7 @@ use Rattle.memory.specs.Bytes.{bytes}
 use Rattle.layout.specs.Layout.{STATE_BYTES}
 use Rattle.layout.proofs.Rows.{sets-next}
 use Rattle.checkpoint.specs.Image.{PAGE_BYTES, all_zero, pages_of}
-use Rattle.checkpoint.specs.Pages.{BODY_BYTES, held, body, bodies, entry, entries, table_bytes, table_of}
+use Rattle.checkpoint.specs.Pages.{BODY_BYTES, held, body, bodies, table_entry, entries, table_bytes, table_of}
 use Rattle.checkpoint.specs.Tests.{blank, stands, fill_pages, memory_from}
 use Rattle.checkpoint.proofs.Pages.{blank-long, fill-held, fill-zero, fill-passed, memory-held, memory-passed}
 use Rattle.checkpoint.proofs.Images.{length-entry, length-table}
@@ -21,13 +21,13 @@ use Rattle.checkpoint.proofs.Images.{length-entry, length-table}
 -- the table
 pub entries-more : (into : List ℕ) (n offset i : ℕ) → i < n
     → sets into (16 + 12 * i) (entries (n - i) (offset + BODY_BYTES * i))
-    ≡ sets (sets into (16 + 12 * i) (entry 2 (offset + BODY_BYTES * i) BODY_BYTES)) (16 + 12 * (i + 1)) (entries (n - (i + 1)) (offset + BODY_BYTES * (i + 1)))
+    ≡ sets (sets into (16 + 12 * i) (table_entry 2 (offset + BODY_BYTES * i) BODY_BYTES)) (16 + 12 * (i + 1)) (entries (n - (i + 1)) (offset + BODY_BYTES * (i + 1)))
 unfolding entries
 entries-more into n offset i h =
     let e : n - i ≡ suc (n - (i + 1)) = omega arith in
     let d : offset + BODY_BYTES * (i + 1) ≡ offset + BODY_BYTES * i + BODY_BYTES = omega arith in
-    let f : 16 + 12 * i + length (entry 2 (offset + BODY_BYTES * i) BODY_BYTES) ≡ 16 + 12 * (i + 1) = omega (arith, length-entry 2 (offset + BODY_BYTES * i) BODY_BYTES) in
-    rw (e, d) (sym (sets-next into (16 + 12 * i) (16 + 12 * (i + 1)) (entry 2 (offset + BODY_BYTES * i) BODY_BYTES) _ f))
+    let f : 16 + 12 * i + length (table_entry 2 (offset + BODY_BYTES * i) BODY_BYTES) ≡ 16 + 12 * (i + 1) = omega (arith, length-entry 2 (offset + BODY_BYTES * i) BODY_BYTES) in
+    rw (e, d) (sym (sets-next into (16 + 12 * i) (16 + 12 * (i + 1)) (table_entry 2 (offset + BODY_BYTES * i) BODY_BYTES) _ f))
 
 pub entries_none : (n i offset : ℕ) → n ≤ i → entries (n - i) offset ≡ []
 unfolding entries
@@ -38,11 +38,11 @@ unfolding bytes
 four v = refl
 
 pub table-stored : (into : List ℕ) (n : ℕ)
-    → sets (sets (sets into 0 (bytes 4 (n + 1))) 4 (entry 1 (table_bytes n) STATE_BYTES)) 16 (entries n (table_bytes n + STATE_BYTES)) ≡ sets into 0 (table_of n)
+    → sets (sets (sets into 0 (bytes 4 (n + 1))) 4 (table_entry 1 (table_bytes n) STATE_BYTES)) 16 (entries n (table_bytes n + STATE_BYTES)) ≡ sets into 0 (table_of n)
 unfolding table_of
 table-stored into n =
-    sets-next (sets into 0 (bytes 4 (n + 1))) 4 16 (entry 1 (table_bytes n) STATE_BYTES) (entries n (table_bytes n + STATE_BYTES)) (rw length-entry refl)
-    ∙ sets-next into 0 4 (bytes 4 (n + 1)) (entry 1 (table_bytes n) STATE_BYTES ++ entries n (table_bytes n + STATE_BYTES)) (four (n + 1))
+    sets-next (sets into 0 (bytes 4 (n + 1))) 4 16 (table_entry 1 (table_bytes n) STATE_BYTES) (entries n (table_bytes n + STATE_BYTES)) (rw length-entry refl)
+    ∙ sets-next into 0 4 (bytes 4 (n + 1)) (table_entry 1 (table_bytes n) STATE_BYTES ++ entries n (table_bytes n + STATE_BYTES)) (four (n + 1))
 
 pub table_front : (l after : List ℕ) (n : ℕ) → after ≡ sets l 0 (table_of n) → table_bytes n ≤ length l → take (table_bytes n) after ≡ table_of n
 table_front l after n stored room =

@@ -19,17 +19,17 @@ unfoldable pub bodies : ℕ → ℕ → List ℕ → List ℕ
 bodies zero at m = []
 bodies (suc n) at m = body at (take PAGE_BYTES m) ++ bodies n (at + PAGE_BYTES) (drop PAGE_BYTES m)
 
-unfoldable pub entry : ℕ → ℕ → ℕ → List ℕ
-entry kind offset size = bytes 4 kind ++ (bytes 4 offset ++ bytes 4 size)
+unfoldable pub table_entry : ℕ → ℕ → ℕ → List ℕ
+table_entry kind offset size = bytes 4 kind ++ (bytes 4 offset ++ bytes 4 size)
 
 -- the entries of n pages whose bodies start at an offset
 unfoldable pub entries : ℕ → ℕ → List ℕ
 entries zero offset = []
-entries (suc n) offset = entry 2 offset BODY_BYTES ++ entries n (offset + BODY_BYTES)
+entries (suc n) offset = table_entry 2 offset BODY_BYTES ++ entries n (offset + BODY_BYTES)
 
 abbrev pub table_bytes : ℕ → ℕ
 table_bytes n = 16 + 12 * n
 
 -- the table of a state and n pages
 unfoldable pub table_of : ℕ → List ℕ
-table_of n = bytes 4 (n + 1) ++ (entry 1 (table_bytes n) STATE_BYTES ++ entries n (table_bytes n + STATE_BYTES))
+table_of n = bytes 4 (n + 1) ++ (table_entry 1 (table_bytes n) STATE_BYTES ++ entries n (table_bytes n + STATE_BYTES))

@@ -2,7 +2,7 @@
 ghost use Rattle.std.specs.Prelude.{◌≡◌, ◌+◌, ◌*◌, ◌≤◌, length, take};
 ghost use Rattle.std.specs.Str.{bytes_eq};
 ghost use Rattle.std.proofs.lemmas.List.Edits.{sets};
-ghost use Rattle.checkpoint.specs.Pages.{entry, entries, table_bytes, table_of};
+ghost use Rattle.checkpoint.specs.Pages.{table_entry, entries, table_bytes, table_of};
 ghost use Rattle.layout.specs.Layout.{STATE_BYTES};
 
 use crate::{BODY_BYTES, ENTRY_BYTES, TABLE_BYTES};
@@ -14,7 +14,7 @@ const MOST_TABLE: usize = 208;
 
 fn put_entry(into: &mut [u8], at: usize, kind: u64, offset: usize, size: usize)
     requires { at + 12 ≤ length into.old }
-    ensures { into.new ≡ sets into.old at (entry kind offset size) }
+    ensures { into.new ≡ sets into.old at (table_entry kind offset size) }
 {
     put_number(into, at, 4, kind);
     put_number(into, at + 4, 4, offset as u64);

@@ -2,12 +2,13 @@
 // program reads or writes, so this promises nothing; what is printed is tested.
 #![tactic(auto)]
 
+use execute::Mode;
 use refusal::{Refusal, Stop};
 use run::Ran;
 use state::State;
 use std::{fmt, io};
 
-pub const FUEL: u64 = 1_000_000;
+const FUEL: u64 = 1_000_000;
 
 const MEMORY: usize = 65_536;
 
@@ -42,14 +43,17 @@ fn print_registers(rt: &impl Print, s: State) -> io::Result<()> {
     Ok(())
 }
 
+fn run_in(mode: Mode, memory: &mut [u8]) -> Ran {
+    let fresh = state::fresh(0);
+    match mode {
+        Mode::Plain => run::run_plain(fresh, FUEL, memory, &mut [], &mut [], &mut [], 0),
+        Mode::Deferred => run::run_deferred(fresh, FUEL, memory, &mut [], &mut [], &mut [], 0),
+    }
+}
+
 // Runs the program on standard input from a fresh state, and prints how it stopped and the registers. More than memory holds is
 // refused.
-pub fn run_program<F: FnOnce(State, &mut [u8]) -> Ran>(
-    rt: &(impl Print + Input + AllocGlobal),
-    run: F,
-) -> io::Result<()>
-    requires { F.IsAlwaysCallable run }
-{
+pub fn run_program(rt: &(impl Print + Input + AllocGlobal), mode: Mode) -> io::Result<()> {
     let Some(mut memory) = input::read_at_most(rt.alloc(), &mut rt.reader(), MEMORY)? else {
         let stop = Stop::Refused(Refusal::Malformed);
         return println!(rt;
@@ -62,7 +66,7 @@ pub fn run_program<F: FnOnce(State, &mut [u8]) -> Ran>(
         );
     };
     memory.resize(MEMORY, 0)?;
-    let ran = run(state::fresh(0), &mut memory);
+    let ran = run_in(mode, &mut memory);
     let stop = ran.stop;
     let steps = ran.steps;
     let after = ran.state;

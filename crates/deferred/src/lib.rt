@@ -98,7 +98,7 @@ pub fn limbs_of_registers(p: Parts, registers: &mut Registers) -> bool
     false
 }
 
-// Likewise Addi.
+// Likewise Addi. By itself, since its plan is of one register and a number, and its law of another form.
 pub fn limbs_of_immediate(p: Parts, registers: &mut Registers) -> bool
     ensures { limbed result registers.new ≡ limbs_if (is_immediate (form_of p.op)) document_notes (instruction_of p) registers.old }
 {

@@ -25,6 +25,7 @@ fn word(p: Parts) -> Option<u32>
     }
 }
 
+// The operands of the forms, a function each: they differ in what is read, and in which of it fits which field.
 fn three_registers(s: &[u8], op: Opcode, at: usize) -> Option<u32>
     requires { form_of op ≡ Form·.R }
     ensures { saying_of (word_for op (operands_read (kinds_of Form·.R) (look_in [] [] 0) (drop at s.now))) ≡ word_or_wrong result }

@@ -14,7 +14,7 @@ use Rattle.told.specs.Told.{done_told, refused_told}
 use Rattle.told.specs.declared.Told.{Told}
 use Rattle.programs.specs.Programs.{Teller, Assembly, refused, made, assemble_of, labels_from, lines_of}
 use Rattle.programs.specs.Promise.{leaves, left_cleared, bytes_of_words, outcome, left_of, Assembled}
-use Rattle.programs.specs.Code.{tellers_of, Gives, NotedAll, answer_of, check_from, words_from}
+use Rattle.programs.specs.Code.{tellers_of, Gives, NotedAll, ended_told, check_from, words_from}
 use Rattle.programs.specs.declared.Failure.{Failure}
 use Rattle.std.specs.Prelude.{Ok, Err}
 use Rattle.programs.proofs.Top.{met}
@@ -41,7 +41,7 @@ count-made (refused m) n e = absurd (let z : ◌≡◌ {A = ℕ} 0 1 = cc in ome
 count-made (made ws) n e = let q : 0 + length ws ≡ n = cc in (ws, (refl, sym (zero-add (length ws)) ∙ q))
 
 module _ (text words labels : List ℕ) where
-  pub left-short : (table : List ℕ) (f : Failure) → NotedAll text table (Err f) → length table ≡ length labels → left_cleared (answer_of (Err f)) words labels ≡ left_of (tellers_of text) words labels
+  pub left-short : (table : List ℕ) (f : Failure) → NotedAll text table (Err f) → length table ≡ length labels → left_cleared (ended_told (Err f)) words labels ≡ left_of (tellers_of text) words labels
   unfolding left_of
   left-short table Failure.NoRoom h l =
       sym (ap (λ (b : Bool). cond b (left_cleared (refused_told 9 0) words labels) (outcome (assemble_of (tellers_of text)) words labels)) (lt-ltb (length labels) (3 * length (labels_from (tellers_of text) 0)) (omega arith)))
@@ -54,7 +54,7 @@ module _ (text words labels : List ℕ) where
         ap (λ (o : Assembly). outcome o words labels) (sym e)
         ∙ sym (ap (λ (b : Bool). cond b (left_cleared (refused_told 9 0) words labels) (outcome (assemble_of (tellers_of text)) words labels)) (le-ltb (length labels) (3 * length (labels_from (tellers_of text) 0)) (let r = g.room in omega arith)))
 
-    pub left-bad : (f : Failure) → check_from text table second (lines_of text) 1 0 ≡ Err f → left_cleared (answer_of (Err f)) words labels ≡ left_of (tellers_of text) words labels
+    pub left-bad : (f : Failure) → check_from text table second (lines_of text) 1 0 ≡ Err f → left_cleared (ended_told (Err f)) words labels ≡ left_of (tellers_of text) words labels
     unfolding outcome
     left-bad f e =
         let bad = count-bad (assemble_of (tellers_of text)) f (sym (check-right text table second g) ∙ e) in

@@ -141,10 +141,10 @@ words_from text table (t ∷ ts) own =
     (λ w. w ∷ words_from text table ts (own + 1)) (words_from text table ts own)
 
 -- ---- what is answered, and left in `words`
-abbrev pub answer_of : Result ℕ Failure → Told
-answer_of (Ok length) = done_told length
-answer_of (Err Failure.NoRoom) = refused_told 9 0
-answer_of (Err (Failure.BadLine line)) = refused_told 10 line
+abbrev pub ended_told : Result ℕ Failure → Told
+ended_told (Ok length) = done_told length
+ended_told (Err Failure.NoRoom) = refused_told 9 0
+ended_told (Err (Failure.BadLine line)) = refused_told 10 line
 
 abbrev pub Leaves : List ℕ → List ℕ → List ℕ → Result ℕ Failure → List ℕ → Type 0
-Leaves text words table r new = left_cleared (answer_of r) new table ≡ left_of (tellers_of text) words table
+Leaves text words table r new = left_cleared (ended_told r) new table ≡ left_of (tellers_of text) words table

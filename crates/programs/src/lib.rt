@@ -8,7 +8,7 @@ mod writing; // writing.rt: words, and a table of zeros
 
 ghost use Rattle.std.specs.Prelude.{◌≡◌, length, replicate};
 ghost use Rattle.programs.specs.Promise.{Assembled, leaves};
-ghost use Rattle.programs.specs.Code.{answer_of, Leaves};
+ghost use Rattle.programs.specs.Code.{ended_told, Leaves};
 
 use checking::check;
 use noting::note_labels;
@@ -37,7 +37,7 @@ fn assemble_with(text: &[u8], words: &mut [u8], table: &mut [u64]) -> Result<u64
 }
 
 fn answer(r: Result<u64, Failure>) -> Told
-    ensures { result ≡ answer_of r }
+    ensures { result ≡ ended_told r }
 {
     match r {
         Ok(length) => done(length),

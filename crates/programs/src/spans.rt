@@ -93,7 +93,7 @@ fn eight_are_text(s: &[u8], n: usize) -> bool
         & (s[n + 7] != 10)
 }
 
-// The same, eight bytes a turn.
+// The same, eight bytes a turn. No `for`: the last bytes, fewer than eight, are another loop's all the same.
 fn line_feed(s: &[u8], at: usize) -> usize
     requires { at ≤ length s.now }
     ensures { Passed is_text s.now at result }

@@ -1,6 +1,6 @@
 -- Document 01's corners P1 to P12 as one list under one statement: what a definition gives, beside what the document says.
 use Rattle.refusal.specs.declared.Refusal.{Refusal}
-use Rattle.std.specs.Prelude.{Err, Ok, Result, ℕ, ◌-◌, ◌^◌, ◌≡◌, false, ℤ, pos, negsuc, get_or}
+use Rattle.std.specs.Prelude.{None, Some, Option, Err, Ok, Result, ℕ, ◌-◌, ◌^◌, ◌≡◌, false, ℤ, pos, negsuc, get_or}
 use mathlib.Core.List.{List, [], ◌∷◌, replicate}
 use Rattle.encoding.specs.Fields.{signed_of}
 use Rattle.opcode.specs.Opcodes.{opcode_number}
@@ -13,7 +13,7 @@ use Rattle.instruction.specs.declared.StoreKind.TheVariants.{Sw}
 use Rattle.state.specs.Held.{value_of}
 use Rattle.state.specs.Registers.{registers, holds}
 use Rattle.state.specs.Formed.{fresh_at}
-use Rattle.normalize.specs.Normalizing.{normalize_and_write}
+use Rattle.normalize.specs.Normalizing.{zeros, normalize_and_write}
 use Rattle.normalize.specs.declared.NormalizationResult.{NormalizationResult}
 use Rattle.effect.specs.Notes.{document_notes}
 use Rattle.execute.specs.World.{World, world}
@@ -38,9 +38,14 @@ word_in (Err r) = 2 ^ 32
 abbrev pub word : Instruction → ℕ
 word i = word_in (encode_in opcode_number i)
 
--- limbs 2^30-1 twice, normalised
+-- limbs 2^30-1 twice, normalised; an answer that is none gives zeros
+abbrev pub normalisation_in : Result (Option NormalizationResult) Refusal → NormalizationResult
+normalisation_in (Ok (Some r)) = r
+normalisation_in (Ok None) = zeros
+normalisation_in (Err r) = zeros
+
 abbrev pub normalised : NormalizationResult
-normalised = (normalize_and_write (fresh_at 0) 1 (2 ^ 30 - 1) (2 ^ 30 - 1)).result
+normalised = normalisation_in (normalize_and_write (fresh_at 0) 1 (2 ^ 30 - 1) (2 ^ 30 - 1)).answer
 
 -- R1 holds a and R2 b; R3 holds 7, which no corner gives
 abbrev pub holding : ℕ → ℕ → World

@@ -26,6 +26,7 @@ pub enum Stop {
     Refused(Refusal),
 }
 
+// C, the programs and document 01 know a refusal by its number.
 pub fn number_of(r: Refusal) -> u64
     ensures { result ≡ number_of r }
 {

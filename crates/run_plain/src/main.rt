@@ -1,10 +1,9 @@
 // Runs the zkIR program on standard input in the plain mode, and prints how it stopped and the registers that are not zero.
 #![tactic(auto)]
 
+use execute::Mode;
 use std::io;
 
 fn main(rt: HostRuntime) -> io::Result<()> {
-    console::run_program(&rt, |fresh, memory| {
-        run::run_plain(fresh, console::FUEL, memory, &mut [], &mut [], &mut [], 0)
-    })
+    console::run_program(&rt, Mode::Plain)
 }

@@ -4,7 +4,7 @@
 ghost use Rattle.std.specs.Prelude.{◌≡◌};
 ghost use Rattle.told.specs.Told.{done_told, refused_told};
 
-// `length` is the bytes that were written.
+// `length` is the bytes that were written. C gets these three numbers, so it is no Result.
 #[repr(C)]
 #[derive(Clone, Copy)]
 pub struct Told {

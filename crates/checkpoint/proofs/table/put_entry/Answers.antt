@@ -1,4 +1,4 @@
-use Rattle.checkpoint.specs.Pages.{entry}
+use Rattle.checkpoint.specs.Pages.{table_entry}
 use Rattle.layout.proofs.Numbers.{stored_next}
 use native.Mathlib.Omega.{arith}
 use mathlib.Core.Path.{refl, ◌∙◌}
@@ -6,7 +6,7 @@ use Prim.Native.Nat.{◌+◌}
 use Rattle.checkpoint.proofs.table.put_entry.Goals as goal
 
 pub returns : goal.returns
-unfolding entry
+unfolding table_entry
 returns c =
     let a = c.args in
     let first = c.put_number.ensures in
