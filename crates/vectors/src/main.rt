@@ -3,29 +3,24 @@
 #![tactic(auto)]
 
 mod call; // call.rt: the call that a line's numbers describe, and what it must leave
-mod line; // line.rt: the numbers of a line
+mod line; // line.rt: a line, as its bytes come
 mod replay; // replay.rt: the call made, and all that it leaves compared
 mod tally; // tally.rt: what was met, counted and printed
 
 use call::Call;
-use line::numbers;
+use line::{Ended, Line};
 use std::io;
-use std::io::{BufRead, BufReader};
 use tally::Tally;
 
-fn replay_line(
-    rt: &(impl Print + AllocGlobal),
-    tally: &mut Tally,
-    number: u64,
-    line: &[u8],
-) -> io::Result<()> {
-    if line.starts_with(b"#") {
-        return Ok(());
-    }
-    let Some(numbers) = numbers(rt.alloc(), line)? else {
-        return tally.note_malformed(rt, number);
+const CHUNK: usize = 65_536;
+
+fn replay_line(rt: &impl Print, tally: &mut Tally, number: u64, line: &mut Line) -> io::Result<()> {
+    let call = match line.end()? {
+        Ended::Title => return Ok(()),
+        Ended::Malformed => None,
+        Ended::Numbers(numbers) => Call::read(numbers),
     };
-    match Call::read(&numbers) {
+    match call {
         Some(call) => {
             let differences = replay::replay(&call);
             tally.note_compared(rt, number, call.lists.is_some(), differences)
@@ -36,9 +31,28 @@ fn replay_line(
 
 fn main(rt: HostRuntime) -> io::Result<()> {
     let mut tally = Tally::default();
-    let reader = BufReader::new(rt.alloc(), rt.stdin())?;
-    for (number, line) in (1..).zip(reader.split(rt.alloc(), b'\n')) {
-        replay_line(&rt, &mut tally, number, &line?)?;
+    let mut number: u64 = 1;
+    let mut line = Line::new(rt.alloc());
+    let mut reader = rt.stdin();
+    let mut chunk = vec![in rt.alloc(); 0u8; CHUNK]?;
+    // Nothing says that the input ends, so the turns are counted, to a number that no run uses up.
+    for _ in 0..u64::MAX {
+        let filled = input::fill(&mut reader, &mut chunk)?;
+        if filled == 0 {
+            break;
+        }
+        for byte in &chunk[..filled] {
+            if *byte == b'\n' {
+                replay_line(&rt, &mut tally, number, &mut line)?;
+                line.clear();
+                number = number.saturating_add(1);
+            } else {
+                line.push(*byte)?;
+            }
+        }
+    }
+    if !line.is_empty() {
+        replay_line(&rt, &mut tally, number, &mut line)?;
     }
     println!(rt; "{tally}")
 }
