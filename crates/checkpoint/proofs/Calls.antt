@@ -5,12 +5,12 @@ use mathlib.Core.Bool.{true, false}
 use mathlib.Core.List.{List, ◌++◌}
 use native.Mathlib.Omega.{arith}
 use lib.Dec.{eqb}
-use lib.ListN.{length, length-take, length-drop}
+use lib.ListN.{length}
 use lib.Seq.{sets, sets-eq}
-use borrow.Author.Tests.{eqb-true, leb-true, le-leb, lt-leb}
+use borrow.Author.Tests.{leb-true, le-leb, lt-leb}
 use Rattle.layout.specs.Layout.{STATE_BYTES, admissible}
 use Rattle.memory.proofs.Numbers.{Small}
-use Rattle.layout.proofs.Rows.{sets-next, sets-all}
+use Rattle.layout.proofs.Rows.{sets-next}
 use Rattle.layout.proofs.Tests.{both}
 use Rattle.checkpoint.specs.Image.{PAGE_BYTES, pages_of, image_of}
 use Rattle.checkpoint.specs.Pages.{held, bodies, table_bytes, table_of}

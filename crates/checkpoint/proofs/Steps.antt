@@ -126,7 +126,7 @@ unfolding held
 held-end s h = let e : pages_of s ≡ zero = omega arith in rw e
 
 module _ (m : List ℕ) (n i : ℕ) where
-  bodies-more : i < n
+  pub bodies-more : i < n
       → bodies (n - i) (PAGE_BYTES * i) (drop (PAGE_BYTES * i) m)
       ≡ body (PAGE_BYTES * i) (take PAGE_BYTES (drop (PAGE_BYTES * i) m)) ++ bodies (n - (i + 1)) (PAGE_BYTES * (i + 1)) (drop (PAGE_BYTES * (i + 1)) m)
   unfolding bodies

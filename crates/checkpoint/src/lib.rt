@@ -12,6 +12,7 @@ use reading::{passes, restore};
 use told::{Told, done, refused};
 use writing::{held, put_image};
 
+mod copying; // copying.rt: bytes of one slice into another
 mod reading; // reading.rt: the machine in an image
 mod table; // table.rt: the table of contents
 mod writing; // writing.rt: the image of a machine

@@ -6,6 +6,7 @@ ghost use Rattle.checkpoint.specs.Calls.{memory_fits};
 ghost use Rattle.checkpoint.specs.Tests.{stands, fill_pages, memory_from, LEAST, state_at, bodies_at, passes};
 ghost use Rattle.layout.specs.Layout.{STATE_BYTES};
 
+use crate::copying::copy;
 use crate::table::table_is;
 use crate::zeros::all_zero;
 use crate::{BODY_BYTES, ENTRY_BYTES, LEAST, MORE, PAGE_BYTES, TABLE_BYTES};
@@ -84,7 +85,7 @@ fn put_pages(memory: &mut [u8], bodies: &[u8])
             memory[at..at + PAGE_BYTES].fill(0);
             continue;
         };
-        memory[at..at + PAGE_BYTES].copy_from_slice(page);
+        copy(&mut memory[at..at + PAGE_BYTES], page);
         rest = &rest[BODY_BYTES..];
     }
 }
@@ -99,6 +100,6 @@ pub(crate) fn restore(state: &mut [u8], memory: &mut [u8], image: &[u8])
     let n = (image.len() - LEAST) / MORE;
     let start = TABLE_BYTES + ENTRY_BYTES * n;
     let end = start + STATE_BYTES;
-    state.copy_from_slice(&image[start..end]);
+    copy(state, &image[start..end]);
     put_pages(memory, &image[end..]);
 }

@@ -7,6 +7,7 @@ ghost use Rattle.checkpoint.specs.Pages.{held, body, bodies};
 ghost use Rattle.checkpoint.specs.Tests.{LEAST, MORE};
 ghost use Rattle.layout.specs.Layout.{STATE_BYTES};
 
+use crate::copying::copy;
 use crate::table::put_table;
 use crate::zeros::all_zero;
 use crate::{BODY_BYTES, ENTRY_BYTES, PAGE_BYTES, TABLE_BYTES};
@@ -39,7 +40,7 @@ fn put_body(image: &mut [u8], place: usize, at: usize, page: &[u8]) -> usize
     }
     let end = place + BODY_BYTES;
     put_number(image, place, 8, at as u64);
-    image[place + 8..end].copy_from_slice(page);
+    copy(&mut image[place + 8..end], page);
     end
 }
 
@@ -66,6 +67,6 @@ pub(crate) fn put_image(image: &mut [u8], n: usize, state: &[u8], memory: &[u8])
     let start = TABLE_BYTES + ENTRY_BYTES * n;
     let end = start + STATE_BYTES;
     put_table(image, n);
-    image[start..end].copy_from_slice(state);
+    copy(&mut image[start..end], state);
     put_bodies(image, end, memory);
 }

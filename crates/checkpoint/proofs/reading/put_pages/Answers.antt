@@ -25,8 +25,8 @@ loop-p-preserved-in_default c =
     in
     rw wrote (memory_passed l.rest.now (pages_of a.memory.now) l.p (omega arith) l.memory c.in_default.ensures ∙ l.invariant)
 
-pub copy_from_slice-requires : goal.copy_from_slice-requires
-copy_from_slice-requires c =
+pub copy-requires : goal.copy-requires
+copy-requires c =
     let a = c.args in
     let l = c.loop-p in
     let at : ℕ = PAGE_BYTES * l.p in
@@ -45,8 +45,8 @@ loop-p-preserved c =
     let width : at + PAGE_BYTES - at ≡ PAGE_BYTES = omega arith in
     let room : at + PAGE_BYTES ≤ length l.memory = omega arith in
     let long = part-long l.rest.now 8 PAGE_BYTES page.1 in
-    let copied : c.copy_from_slice.new.self ≡ take PAGE_BYTES (drop 8 l.rest.now) = c.copy_from_slice.ensures.after ∙ page.2 in
-    let wrote : put_mid at (at + PAGE_BYTES - at) l.memory c.copy_from_slice.new.self ≡ sets l.memory at (take PAGE_BYTES (drop 8 l.rest.now)) =
+    let copied : c.copy.new.into ≡ take PAGE_BYTES (drop 8 l.rest.now) = c.copy.ensures ∙ page.2 in
+    let wrote : put_mid at (at + PAGE_BYTES - at) l.memory c.copy.new.into ≡ sets l.memory at (take PAGE_BYTES (drop 8 l.rest.now)) =
     rw (width, copied) (put_mid-sets l.memory (take PAGE_BYTES (drop 8 l.rest.now)) at PAGE_BYTES room long)
     in
     rw (wrote, take_rest l.rest.now 4104) (memory_held l.rest.now (pages_of a.memory.now) l.p (omega arith) l.memory page.0 long ∙ l.invariant)

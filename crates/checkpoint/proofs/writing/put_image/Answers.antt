@@ -25,5 +25,5 @@ returns c =
     let start = table_bytes a.n in
     let width : start + STATE_BYTES - start ≡ STATE_BYTES = omega arith in
     let state = put_mid-sets c.put_table.new.into a.state.now start STATE_BYTES (omega arith) c.requires.state_len in
-    rw (c.put_bodies.ensures, c.copy_from_slice.ensures.after, width, state, c.put_table.ensures, c.requires.n_value)
+    rw (c.put_bodies.ensures, c.copy.ensures, width, state, c.put_table.ensures, c.requires.n_value)
     (image-stored (pages_of m) a.image.now a.state.now m c.requires.state_len (fits_whole (length m) c.requires.fits))
