@@ -1,4 +1,6 @@
 // The labels of a text, noted in a table.
+ghost use Rattle.std.specs.Prelude.{List, ℕ, ◌≡◌, ◌++◌, length, take};
+
 use labels::table::{find, note};
 use lines::{Start, start_of};
 
@@ -39,14 +41,18 @@ pub struct Line<'a> {
     pub before: u64,
 }
 
-fn without_end(line: &[u8]) -> &[u8] {
+fn without_end(line: &[u8]) -> &[u8]
+    ensures { result.now ≡ take (length result.now) line.now }
+{
     line.strip_suffix(b"\r\n")
         .or(line.strip_suffix(b"\n"))
         .unwrap_or(line)
 }
 
 // Notes the labels of a text in a table of zeros, and gives the line of a number, which counts from 1.
-pub fn note_labels<'a>(text: &'a [u8], table: &mut [u64], number: u64) -> Line<'a> {
+pub fn note_labels<'a>(text: &'a [u8], table: &mut [u64], number: u64) -> Line<'a>
+    ensures { (front back : List ℕ) × (text.now ≡ front ++ (result.bytes.now ++ back)) }
+{
     let mut found = Line {
         bytes: &[],
         before: 0,
