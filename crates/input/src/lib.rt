@@ -2,7 +2,7 @@
 // promises say which of them came; of standard input nothing can be known.
 #![tactic(auto)]
 
-ghost use Rattle.std.specs.Prelude.{◌≡◌, ◌<◌, length, take, nat_lt, IfOk, IfSome, MatchOption};
+ghost use Rattle.std.specs.Prelude.{◌≡◌, ◌<◌, ◌≤◌, length, take, nat_lt, IfOk, IfSome, MatchOption};
 ghost use Rattle.std.specs.Io.{ReadsAtMost};
 ghost use Rattle.std.specs.Io.KnownBytes.{Consumes, IsAtEnd};
 
@@ -43,7 +43,7 @@ pub fn read_at_most<R: Read>(
     reader: &mut R,
     most: usize,
 ) -> io::Result<Option<Vec<u8>>>
-    ensures { IfOk result (λ read. IfSome (R.remaining reader.old) (λ xs. MatchOption read (most < length xs) (λ bytes. bytes.items ≡ xs))) }
+    ensures { IfOk result (λ read. IfSome (R.remaining reader.old) (λ xs. MatchOption read (most < length xs) (λ bytes. (length xs ≤ most) × (bytes.items ≡ xs)))) }
 {
     let mut bytes = vec![in alloc; 0; most]?;
     let filled = fill(reader, &mut bytes)?;
