@@ -8,7 +8,7 @@ use run::Ran;
 use state::State;
 use std::{fmt, io};
 
-const FUEL: u64 = 1_000_000;
+pub const FUEL: u64 = 1_000_000;
 
 const MEMORY: usize = 65_536;
 

@@ -27,7 +27,7 @@ last-digit : (f n : ℕ) → 10 ≤ n → digits_by (suc f) n ≡ digits_by f (n
 unfolding digits_by
 last-digit f n h = rw (le-ltb n 10 h)
 
-more-digits : (n : ℕ) → 10 ≤ n → n < 2 ^ 64 → digits_by 20 n ≡ digits_by 20 (n / 10) ++ ((48 + n % 10) ∷ [])
+pub more-digits : (n : ℕ) → 10 ≤ n → n < 2 ^ 64 → digits_by 20 n ≡ digits_by 20 (n / 10) ++ ((48 + n % 10) ∷ [])
 more-digits n h small = rw (unused 18 (n / 10) (omega arith)) (last-digit 19 n h)
 
 pub length_more : (n : ℕ) → 10 ≤ n → n < 2 ^ 64 → length (digits_by 20 n) ≡ length (digits_by 20 (n / 10)) + 1

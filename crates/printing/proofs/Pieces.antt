@@ -12,7 +12,7 @@ sets-next l at next [] ys e = let same : next ≡ at = omega arith in rw same
 sets-next l at next (x ∷ xs) ys e = sets-next (set l at x) (suc at) next xs ys (omega arith)
 
 -- the last byte of a piece, put first
-sets_last : (l : List ℕ) (at : ℕ) (xs : List ℕ) (y : ℕ) → sets (set l (at + length xs) y) at xs ≡ sets l at (xs ++ (y ∷ []))
+pub sets_last : (l : List ℕ) (at : ℕ) (xs : List ℕ) (y : ℕ) → sets (set l (at + length xs) y) at xs ≡ sets l at (xs ++ (y ∷ []))
 sets_last l at [] y = let here : at + 0 ≡ at = omega arith in rw here
 sets_last l at (x ∷ xs) y =
     let there : at + suc (length xs) ≡ suc at + length xs = omega arith in
